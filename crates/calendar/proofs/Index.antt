@@ -1,0 +1,87 @@
+-- What acceptance and a day's index tell. Assumes nothing.
+use Prim.Native.Nat.{ℕ, _+_, _-_, _≤_, _<_}
+use mathlib.Core.Path.{_≡_, refl, ap, sym, _∙_}
+use mathlib.Core.Bool.{Bool, true, false, cond, _||_}
+use native.Mathlib.Omega.{arith}
+use lib.Dec.{leb}
+use lib.IntN.{ℤ, pos, _-ℤ_, _+ℤ_, natAbs}
+use lib.Signed.{ltZ}
+use borrow.Author.Tests.{leb-false, leb-true, lt-leb}
+use Rattle.calendar.specs.declared.DayIndex.{DayIndex}
+use Rattle.calendar.specs.declared.DayIndex.the-variants.{At, Outside}
+use Rattle.calendar.specs.declared.Acceptance.the-variants.{Accepted, NotAccepted}
+use Rattle.calendar.specs.Limits.{firstDay, lastDay, dayMicros}
+use Rattle.calendar.specs.Instants.{outside, indexAt, acceptance}
+use Rattle.calendar.specs.Inner.{dayIndex}
+use Rattle.calendar.proofs.Signs.{firstIndex, lastIndex, Between, between}
+
+pub index-outside : (z : ℤ) → dayIndex z ≡ Outside → outside z ≡ true
+unfolding dayIndex
+index-outside z e = by (outside z) e
+  where
+    by : (b : Bool) → cond b Outside (At (indexAt z)) ≡ Outside → b ≡ true
+    by true e = refl
+    by false e = let w : _≡_ {A = ℕ} 0 1 = cc in let v : ⊥ = omega arith in absurd v
+
+-- a day number that has the index n
+pub record HasIndex (z : ℤ) (n : ℕ) : Type 0 where
+  pub inside : outside z ≡ false
+  pub index : indexAt z ≡ n
+  pub low : firstIndex ≤ n
+  pub high : n ≤ lastIndex
+  pub is : z ≡ pos n -ℤ pos 94553
+
+both-false : (a b : Bool) → a || b ≡ false → (a ≡ false) × (b ≡ false)
+both-false false b e = (refl, e)
+both-false true b e = (e, let w : _≡_ {A = ℕ} 0 1 = cc in let v : ⊥ = omega arith in absurd v)
+
+range : (z : ℤ) → outside z ≡ false → Between z
+unfolding outside
+range z p =
+    let q : (ltZ z firstDay ≡ false) × (ltZ lastDay z ≡ false) = both-false (ltZ z firstDay) (ltZ lastDay z) p in
+    between z (q .0) (q .1)
+
+index-of : (z : ℤ) → (b : Between z) → indexAt z ≡ b .it
+unfolding indexAt
+index-of z b = ap natAbs (b .up)
+
+-- a day number that is not outside has its index
+pub inside-index : (z : ℤ) → outside z ≡ false → HasIndex z (indexAt z)
+inside-index z p =
+    let b : Between z = range z p in
+    let j : b .it ≡ indexAt z = sym (index-of z b) in
+    record { inside = p; index = refl; low = omega (arith, b .low, j); high = omega (arith, b .high, j); is = b .is ∙ ap (λ (k : ℕ). pos k -ℤ pos 94553) j }
+
+pub index-at : (z : ℤ) (n : ℕ) → dayIndex z ≡ At n → HasIndex z n
+unfolding dayIndex
+index-at z n e = by (outside z) refl e
+  where
+    by : (b : Bool) → outside z ≡ b → cond b Outside (At (indexAt z)) ≡ At n → HasIndex z n
+    by true p e = let w : _≡_ {A = ℕ} 0 1 = cc in let v : ⊥ = omega arith in absurd v
+    by false p e = let i : indexAt z ≡ n = cc in rw i at (inside-index z p)
+
+-- What holds of an accepted instant whose day has the index i.
+pub record AcceptedAt (d : ℤ) (m i : ℕ) : Type 0 where
+  pub inside : outside d ≡ false
+  pub less : m < dayMicros
+  pub index : indexAt d ≡ i
+  pub low : firstIndex ≤ i
+  pub high : i ≤ lastIndex
+  pub is : d ≡ pos i -ℤ pos 94553
+
+pub accepted-at : (d : ℤ) (m i : ℕ) → acceptance d m ≡ Accepted i → AcceptedAt d m i
+unfolding acceptance
+accepted-at d m i e = by (outside d) (leb dayMicros m) refl refl e
+  where
+    by : (a b : Bool) → outside d ≡ a → leb dayMicros m ≡ b → cond a (NotAccepted 8) (cond b (NotAccepted 9) (Accepted (indexAt d))) ≡ Accepted i → AcceptedAt d m i
+    by true b p q e = let w : _≡_ {A = ℕ} 0 1 = cc in let v : ⊥ = omega arith in absurd v
+    by false true p q e = let w : _≡_ {A = ℕ} 0 1 = cc in let v : ⊥ = omega arith in absurd v
+    by false false p q e =
+        let f : indexAt d ≡ i = cc in
+        let h : HasIndex d i = rw f at (inside-index d p) in
+        record { inside = p; less = leb-false _ _ q; index = f; low = h .low; high = h .high; is = h .is }
+
+-- a day number in range with microseconds below a day's is accepted
+pub accepted : (d : ℤ) (m : ℕ) → outside d ≡ false → m < dayMicros → acceptance d m ≡ Accepted (indexAt d)
+unfolding acceptance
+accepted d m o h = simp (o, lt-leb dayMicros m h)

@@ -1,0 +1,150 @@
+-- Dates and day numbers are inverse, and day numbers rise by one from a date to the next. Assumes nothing.
+use Prim.Native.Nat.{ℕ, suc, _+_, _-_, _<_, _≤_}
+use mathlib.Core.Path.{_≡_, refl, ap, sym, _∙_, subst}
+use mathlib.Core.Bool.{Bool, true, false, cond, _||_}
+use native.Mathlib.Omega.{arith}
+use native.Mathlib.Decide.{decLe}
+use native.Mathlib.Numerals.{add-one}
+use lib.Dec.{ltb}
+use lib.IntN.{ℤ, pos, _+ℤ_, _-ℤ_, natAbs}
+use borrow.Author.Tests.{le-ltb, ltb-false}
+use Rattle.calendar.specs.declared.Date.{Date}
+use Rattle.calendar.specs.declared.DayAnswer.{DayAnswer}
+use Rattle.calendar.specs.declared.DayAnswer.the-variants.{Day, NoDay}
+use Rattle.calendar.specs.declared.DateAnswer.the-variants.{OnDate, NoDate}
+use Rattle.calendar.specs.Limits.{firstYear, lastYear}
+use Rattle.calendar.specs.Instants.{outside, indexAt}
+use Rattle.calendar.specs.Dates.{monthLength, daysOfYears, indexOf, next, dateAfter, date, numberOf, dayOf, dateOf}
+use Rattle.calendar.specs.Inner.{leapDay}
+use Rattle.calendar.proofs.Dates.{Valid, Found, Steps, step, years-one, after, after-index, index-low, index-high, years-apart}
+use Rattle.calendar.proofs.Signs.{firstIndex, lastIndex}
+use Rattle.calendar.proofs.Index.{HasIndex, inside-index}
+use Rattle.calendar.proofs.Laws.{years-counted}
+
+-- A date is accepted: its year is in range, its month 1..12, and its day one of that month's.
+pub record AcceptedDate (y m d : ℕ) : Type 0 where
+  pub from : firstYear ≤ y
+  pub to : y ≤ lastYear
+  pub one : 1 ≤ m
+  pub twelve : m ≤ 12
+  pub first : 1 ≤ d
+  pub last : d ≤ monthLength y m
+
+valid : (y m d : ℕ) → AcceptedDate y m d → Valid (date y m d)
+valid y m d a = record { late = omega (arith, a .from); one = a .one; twelve = a .twelve; first = a .first; last = a .last }
+
+-- PROMISE. An accepted date has its day number.
+pub accepted-day : (y m d : ℕ) → AcceptedDate y m d → dayOf y m d ≡ Day (numberOf (indexOf (date y m d)))
+unfolding dayOf
+accepted-day y m d a =
+    simp (le-ltb y firstYear (a .from), le-ltb lastYear y (a .to), le-ltb m 1 (a .one), le-ltb 12 m (a .twelve), le-ltb d 1 (a .first), le-ltb (monthLength y m) d (a .last))
+
+past : (a b : Bool) (x : DayAnswer) (k : ℕ) (z : ℤ) → cond (a || b) (NoDay k) x ≡ Day z → (a ≡ false) × ((b ≡ false) × (x ≡ Day z))
+past true b x k z e = let w : _≡_ {A = ℕ} 0 1 = cc in let v : ⊥ = omega arith in absurd v
+past false true x k z e = let w : _≡_ {A = ℕ} 0 1 = cc in let v : ⊥ = omega arith in absurd v
+past false false x k z e = (refl, (refl, e))
+
+-- PROMISE. Only an accepted date has a day number.
+pub day-accepted : (y m d : ℕ) (z : ℤ) → dayOf y m d ≡ Day z → AcceptedDate y m d
+unfolding dayOf
+day-accepted y m d z e =
+    let p : (ltb y firstYear ≡ false) × ((ltb lastYear y ≡ false) × _) = past (ltb y firstYear) (ltb lastYear y) _ 1 z e in
+    let q : (ltb m 1 ≡ false) × ((ltb 12 m ≡ false) × _) = past (ltb m 1) (ltb 12 m) _ 2 z (p .1 .1) in
+    let r : (ltb d 1 ≡ false) × ((ltb (monthLength y m) d ≡ false) × _) = past (ltb d 1) (ltb (monthLength y m) d) _ 3 z (q .1 .1) in
+    record { from = ltb-false _ _ (p .0); to = ltb-false _ _ (p .1 .0); one = ltb-false _ _ (q .0); twelve = ltb-false _ _ (q .1 .0); first = ltb-false _ _ (r .0); last = ltb-false _ _ (r .1 .0) }
+
+-- the days before the first year, and before the year after the last
+years-first : daysOfYears (firstYear - 1600) ≡ firstIndex
+years-first = years-counted (firstYear - 1600)
+
+years-end : daysOfYears (suc lastYear - 1600) ≡ suc lastIndex
+years-end = years-counted (suc lastYear - 1600)
+
+years-from : (y z : ℕ) → 1600 ≤ y → y ≤ z → daysOfYears (y - 1600) ≤ daysOfYears (z - 1600)
+years-from y z h k = by (decLe z y)
+  where
+    by : Dec (z ≤ y) → daysOfYears (y - 1600) ≤ daysOfYears (z - 1600)
+    by (yes p) = let e : y ≡ z = omega arith in rw e (omega arith)
+    by (no p) = omega (arith, years-apart y z h (omega (arith, p)))
+
+-- the index of an accepted date
+index-range : (y m d : ℕ) → AcceptedDate y m d → (firstIndex ≤ indexOf (date y m d)) × (indexOf (date y m d) ≤ lastIndex)
+index-range y m d a = (
+  omega (arith, index-low (date y m d), years-from firstYear y (omega arith) (a .from), years-first),
+  omega (arith, index-high (date y m d) (valid y m d a), years-apart y (suc lastYear) (omega (arith, a .from)) (omega (arith, a .to)), years-end),
+)
+
+-- the number of an index in range is in range, and has that index
+number-pos : (n : ℕ) → firstIndex ≤ n → numberOf n ≡ pos (n - 94553)
+unfolding numberOf
+number-pos n h = simp (le-ltb n 94553 (omega arith))
+
+number-inside : (n : ℕ) → firstIndex ≤ n → n ≤ lastIndex → outside (numberOf n) ≡ false
+unfolding outside
+number-inside n h k = rw (number-pos n h) (simp (le-ltb (n - 94553) 15020 (omega arith), le-ltb 88433 (n - 94553) (omega arith)))
+
+number-index : (n : ℕ) → firstIndex ≤ n → indexAt (numberOf n) ≡ n
+unfolding indexAt
+number-index n h = let b : n - 94553 + 94553 ≡ n = omega arith in rw (number-pos n h) b
+
+-- PROMISE. The date of a date's day number is that date.
+pub there-and-back : (y m d : ℕ) (z : ℤ) → dayOf y m d ≡ Day z → dateOf z ≡ OnDate (date y m d)
+unfolding dateOf
+there-and-back y m d z e =
+    let a : AcceptedDate y m d = day-accepted y m d z e in
+    let r : (firstIndex ≤ indexOf (date y m d)) × (indexOf (date y m d) ≤ lastIndex) = index-range y m d a in
+    let f : Day z ≡ Day (numberOf (indexOf (date y m d))) = sym e ∙ accepted-day y m d a in
+    let g : z ≡ numberOf (indexOf (date y m d)) = cc in
+    rw g (simp (number-inside (indexOf (date y m d)) (r .0) (r .1), number-index (indexOf (date y m d)) (r .0)) (ap OnDate (after-index (date y m d) (valid y m d a))))
+
+-- a day number with a date is in range
+pub date-range : (z : ℤ) (t : Date) → dateOf z ≡ OnDate t → (outside z ≡ false) × (t ≡ dateAfter (indexAt z))
+unfolding dateOf
+date-range z t e = by (outside z) e
+  where
+    by : (a : Bool) → cond a (NoDate 8) (OnDate (dateAfter (indexAt z))) ≡ OnDate t → (a ≡ false) × (t ≡ dateAfter (indexAt z))
+    by true e = let w : _≡_ {A = ℕ} 0 1 = cc in let v : ⊥ = omega arith in absurd v
+    by false e = (refl, cc)
+
+-- a date whose index is in range is accepted
+in-range : (t : Date) → Valid t → firstIndex ≤ indexOf t → indexOf t ≤ lastIndex → AcceptedDate (t .year) (t .month) (t .day)
+in-range t v h k = record { from = from (decLe firstYear (t .year)); to = to (decLe (t .year) lastYear); one = v .one; twelve = v .twelve; first = v .first; last = v .last }
+  where
+    from : Dec (firstYear ≤ t .year) → firstYear ≤ t .year
+    from (yes p) = p
+    from (no p) = omega (arith, index-high t v, years-apart (t .year) firstYear (v .late) (omega (arith, p)), years-first)
+
+    to : Dec (t .year ≤ lastYear) → t .year ≤ lastYear
+    to (yes p) = p
+    to (no p) = omega (arith, p, index-low t, years-from (suc lastYear) (t .year) (omega arith) (omega (arith, p)), years-end)
+
+-- PROMISE. The day number of a day number's date is that day number.
+pub back-and-there : (z : ℤ) (t : Date) → dateOf z ≡ OnDate t → dayOf (t .year) (t .month) (t .day) ≡ Day z
+unfolding numberOf
+back-and-there z t e =
+    let r : (outside z ≡ false) × (t ≡ dateAfter (indexAt z)) = date-range z t e in
+    let h : HasIndex z (indexAt z) = inside-index z (r .0) in
+    let f : Found (indexAt z) (dateAfter (indexAt z)) = after (indexAt z) in
+    let v : Valid t = subst Valid (sym (r .1)) (f .valid) in
+    let x : indexOf t ≡ indexAt z = ap indexOf (r .1) ∙ f .index in
+    let n : numberOf (indexOf t) ≡ z = ap numberOf x ∙ sym (h .is) in
+    accepted-day (t .year) (t .month) (t .day) (in-range t v (omega (arith, h .low, x)) (omega (arith, h .high, x))) ∙ ap Day n
+
+-- PROMISE. Every accepted day number has a date.
+pub has-date : (z : ℤ) → outside z ≡ false → dateOf z ≡ OnDate (dateAfter (indexAt z))
+unfolding dateOf
+has-date z o = simp o
+
+-- PROMISE. The day after an accepted date, month and year ends included, has the next day number, unless it is past the last.
+pub next-day : (y m d : ℕ) (z : ℤ) → dayOf y m d ≡ Day z → AcceptedDate (next (date y m d) .year) (next (date y m d) .month) (next (date y m d) .day)
+    → dayOf (next (date y m d) .year) (next (date y m d) .month) (next (date y m d) .day) ≡ Day (z +ℤ pos 1)
+next-day y m d z e b =
+    let a : AcceptedDate y m d = day-accepted y m d z e in
+    let s : Steps (date y m d) (next (date y m d)) = step (date y m d) (valid y m d a) in
+    let r : (firstIndex ≤ indexOf (date y m d)) × (indexOf (date y m d) ≤ lastIndex) = index-range y m d a in
+    let f : Day z ≡ Day (numberOf (indexOf (date y m d))) = sym e ∙ accepted-day y m d a in
+    let g : z ≡ pos (indexOf (date y m d) - 94553) = cc (number-pos (indexOf (date y m d)) (r .0)) in
+    let k : suc (indexOf (date y m d)) - 94553 ≡ indexOf (date y m d) - 94553 + 1 = omega (arith, r .0) in
+    let n : numberOf (indexOf (next (date y m d))) ≡ z +ℤ pos 1 =
+    ap numberOf (s .more) ∙ (number-pos (suc (indexOf (date y m d))) (omega (arith, r .0)) ∙ (ap pos k ∙ ap (λ (x : ℤ). x +ℤ pos 1) (sym g))) in
+    accepted-day _ _ _ b ∙ ap Day n

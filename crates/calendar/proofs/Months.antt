@@ -1,0 +1,182 @@
+-- What holds of a year's months, each by a test that antt computes. Assumes nothing.
+use Prim.Native.Nat.{ℕ, zero, suc, _+_, _-_, _*_, _/_, _%_, _<_, _≤_}
+use mathlib.Core.Path.{_≡_, refl, ap, sym, _∙_}
+use mathlib.Core.Bool.{Bool, true, false, cond, not, _&&_, _||_}
+use mathlib.Core.List.{List, [], _∷_}
+use native.Mathlib.Omega.{arith}
+use lib.Dec.{T, eqb, leb, ltb, eqb→eq, leb→le, ltb→lt}
+use lib.ListN.{take, getD}
+use mathlib.Core.Logic.{⊎-elim}
+use mir.Facts.{and-yes, or-yes}
+use Rattle.calendar.specs.Dates.{leapYear, monthLengths, sum, monthLength, yearLength, daysBefore}
+use Rattle.calendar.specs.Inner.{leapDay, monthAt}
+use Rattle.calendar.proofs.Below.{allBelow, below}
+
+abbrev day : Bool → ℕ
+day b = cond b 1 0
+
+abbrev before : Bool → ℕ → ℕ
+before b m = sum (take (m - 1) (monthLengths b))
+
+abbrev len : Bool → ℕ → ℕ
+len b m = getD (monthLengths b) (m - 1) 0
+
+-- the tables of the code, at an index from 0
+abbrev pub befores : List ℕ
+befores = 0 ∷ 31 ∷ 59 ∷ 90 ∷ 120 ∷ 151 ∷ 181 ∷ 212 ∷ 243 ∷ 273 ∷ 304 ∷ 334 ∷ []
+
+abbrev pub commons : List ℕ
+commons = 31 ∷ 28 ∷ 31 ∷ 30 ∷ 31 ∷ 30 ∷ 31 ∷ 31 ∷ 30 ∷ 31 ∷ 30 ∷ 31 ∷ []
+
+-- The tests, at the month suc i.
+starts : Bool → ℕ → Bool
+starts b i = eqb (getD befores (suc i - 1) 0 + cond (leb (suc i) 2) 0 (day b)) (before b (suc i))
+
+longs : Bool → ℕ → Bool
+longs b i = eqb (getD commons (suc i - 1) 0 + cond (eqb (suc i) 2) (day b) 0) (len b (suc i))
+
+follow : Bool → ℕ → Bool
+follow b i = eqb (before b (suc i + 1)) (before b (suc i) + len b (suc i))
+
+inside : Bool → ℕ → Bool
+inside b i = leb (before b (suc i) + len b (suc i)) (365 + day b)
+
+some : Bool → ℕ → Bool
+some b i = leb 1 (len b (suc i))
+
+short : Bool → ℕ → Bool
+short b i = ltb (len b (suc i)) 32
+
+-- an earlier month ends before a later one
+apart : Bool → ℕ → ℕ → Bool
+apart b i j = leb j i || leb (before b (suc i) + len b (suc i)) (before b (suc j))
+
+-- the month of a day e
+found : Bool → ℕ → ℕ → Bool
+found b e m = leb 1 m && (leb m 12 && (leb (before b m) e && ltb e (before b m + len b m)))
+
+-- f at every place of both kinds of year
+both : (Bool → ℕ → Bool) → ℕ → Type 0
+both f n = (b : Bool) → T (allBelow (f b) n)
+
+all-starts : both starts 12
+unfolding both starts sum monthLengths
+all-starts true = tt
+all-starts false = tt
+
+all-longs : both longs 12
+unfolding both longs sum monthLengths
+all-longs true = tt
+all-longs false = tt
+
+all-short : both short 12
+unfolding both short sum monthLengths
+all-short true = tt
+all-short false = tt
+
+all-some : both some 12
+unfolding both some sum monthLengths
+all-some true = tt
+all-some false = tt
+
+all-follow : both follow 11
+unfolding both follow sum monthLengths
+all-follow true = tt
+all-follow false = tt
+
+all-inside : both inside 12
+unfolding both inside sum monthLengths
+all-inside true = tt
+all-inside false = tt
+
+all-apart : (b : Bool) → T (allBelow (λ i. allBelow (apart b i) 12) 12)
+unfolding apart sum monthLengths
+all-apart true = tt
+all-apart false = tt
+
+all-found : (b : Bool) → T (allBelow (λ e. found b e (monthAt (day b) e)) (365 + day b))
+unfolding found sum monthLengths
+all-found true = tt
+all-found false = tt
+
+-- What they say of a month of a year.
+unfolded : (b : Bool) → cond b 1 0 ≤ 1
+unfolded true = omega arith
+unfolded false = omega arith
+
+pub leap-small : (y : ℕ) → leapDay y ≤ 1
+unfolding leapDay
+leap-small y = unfolded (leapYear y)
+
+below-of : {i n : ℕ} → suc i ≤ n → i < n
+below-of h = h
+
+pub before-table : (y m : ℕ) → 1 ≤ m → m ≤ 12 → getD befores (m - 1) 0 + cond (leb m 2) 0 (leapDay y) ≡ daysBefore y m
+unfolding daysBefore leapDay starts both
+before-table y zero h k = omega arith
+before-table y (suc i) h k = eqb→eq _ _ (below (starts (leapYear y)) 12 (all-starts (leapYear y)) i k)
+
+pub length-table : (y m : ℕ) → 1 ≤ m → m ≤ 12 → getD commons (m - 1) 0 + cond (eqb m 2) (leapDay y) 0 ≡ monthLength y m
+unfolding monthLength leapDay longs both
+length-table y zero h k = omega arith
+length-table y (suc i) h k = eqb→eq _ _ (below (longs (leapYear y)) 12 (all-longs (leapYear y)) i k)
+
+pub month-next : (y m : ℕ) → 1 ≤ m → m < 12 → daysBefore y (m + 1) ≡ daysBefore y m + monthLength y m
+unfolding daysBefore monthLength follow both
+month-next y zero h k = omega arith
+month-next y (suc i) h k = eqb→eq _ _ (below (follow (leapYear y)) 11 (all-follow (leapYear y)) i (omega arith))
+
+pub month-inside : (y m : ℕ) → 1 ≤ m → m ≤ 12 → daysBefore y m + monthLength y m ≤ 365 + leapDay y
+unfolding daysBefore monthLength leapDay inside both
+month-inside y zero h k = omega arith
+month-inside y (suc i) h k = leb→le _ _ (below (inside (leapYear y)) 12 (all-inside (leapYear y)) i k)
+
+pub month-some : (y m : ℕ) → 1 ≤ m → m ≤ 12 → 1 ≤ monthLength y m
+unfolding monthLength some both
+month-some y zero h k = omega arith
+month-some y (suc i) h k = leb→le _ _ (below (some (leapYear y)) 12 (all-some (leapYear y)) i k)
+
+pub month-short : (y m : ℕ) → 1 ≤ m → m ≤ 12 → monthLength y m < 32
+unfolding monthLength short both
+month-short y zero h k = omega arith
+month-short y (suc i) h k = ltb→lt _ _ (below (short (leapYear y)) 12 (all-short (leapYear y)) i k)
+
+end-by : (b : Bool) → before b 12 + len b 12 ≡ 365 + day b
+unfolding sum monthLengths
+end-by true = refl
+end-by false = refl
+
+pub month-last : (y : ℕ) → daysBefore y 12 + monthLength y 12 ≡ 365 + leapDay y
+unfolding daysBefore monthLength leapDay
+month-last y = end-by (leapYear y)
+
+apart-of : (b : Bool) (i j : ℕ) → i < j → T (apart b i j) → before b (suc i) + len b (suc i) ≤ before b (suc j)
+unfolding apart
+apart-of b i j h t = ⊎-elim (λ p. let q : j ≤ i = leb→le _ _ p in omega arith) (λ p. leb→le _ _ p) (or-yes (leb j i) (leb (before b (suc i) + len b (suc i)) (before b (suc j))) t)
+
+pub month-apart : (y m k : ℕ) → 1 ≤ m → m < k → k ≤ 12 → daysBefore y m + monthLength y m ≤ daysBefore y k
+unfolding daysBefore monthLength
+month-apart y zero k h p q = omega arith
+month-apart y (suc i) zero h p q = omega arith
+month-apart y (suc i) (suc j) h p q =
+    apart-of (leapYear y) i j (omega arith)
+    (below (apart (leapYear y) i) 12 (below (λ i. allBelow (apart (leapYear y) i) 12) 12 (all-apart (leapYear y)) i (omega arith)) j q)
+
+-- The month m has the day e of the year y.
+pub record Has (y e m : ℕ) : Type 0 where
+  pub one : 1 ≤ m
+  pub twelve : m ≤ 12
+  pub start : daysBefore y m ≤ e
+  pub end : e < daysBefore y m + monthLength y m
+
+has : (y e m : ℕ) → T (found (leapYear y) e m) → Has y e m
+unfolding found daysBefore monthLength
+has y e m t =
+    let a : _ × _ = and-yes (leb 1 m) _ t in
+    let b : _ × _ = and-yes (leb m 12) _ (a .1) in
+    let d : _ × _ = and-yes (leb (before (leapYear y) m) e) _ (b .1) in
+    record { one = leb→le _ _ (a .0); twelve = leb→le _ _ (b .0); start = leb→le _ _ (d .0); end = ltb→lt _ _ (d .1) }
+
+pub month-found : (y e : ℕ) → e < 365 + leapDay y → Has y e (monthAt (leapDay y) e)
+unfolding leapDay
+month-found y e h = has y e _ (below (λ e. found (leapYear y) e (monthAt (day (leapYear y)) e)) (365 + day (leapYear y)) (all-found (leapYear y)) e h)

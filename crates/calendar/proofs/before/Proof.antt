@@ -1,0 +1,68 @@
+-- `calendar::before` meets its contract. Assumes nothing.
+use Rattle.calendar.proofs.Months.{month-some}
+use Rattle.calendar.specs.Dates.{monthLength}
+use native.Mathlib.Omega.{arith}
+use native.Mathlib.Nat.{add-zero}
+use mathlib.Core.Path.{_≡_, sym, _∙_}
+use lib.ListN.{getD}
+use Prim.Native.Nat.{_-_, _+_, _≤_}
+use borrow.Author.Tests.{le-leb, lt-leb}
+use Rattle.calendar.specs.Dates.{daysBefore}
+use Rattle.calendar.specs.Inner.{leapDay}
+use Rattle.calendar.proofs.Months.{before-table, month-inside, befores, leap-small}
+use borrow.Author.Needs.{needs}
+use Rattle.calendar.proofs.before.Statement.{statement}
+use Rattle.calendar.proofs.before.Tie as tie
+use Rattle.calendar.proofs.before.Reads as reads
+use Rattle.calendar.proofs.before.Lts as lts
+use Rattle.calendar.proofs.leap.Reads as leap-reads
+
+sub-i : tie.Need-sub-i
+sub-i c = search needs
+
+mul-result : tie.Need-mul-result
+mul-result c = search needs
+
+array-read-result : tie.Need-array-read-result
+array-read-result c = search needs
+
+returns : tie.Need-returns
+returns c =
+    let a = c .before .args in
+    let t : getD befores (a .m - 1) 0 ≡ daysBefore (a .y) (a .m) = sym (add-zero _) ∙ simp (le-leb (a .m) 2 (c .if1 .taken)) at (before-table (a .y) (a .m) (search needs) (search needs)) in
+    (t, omega (arith, t, month-inside (a .y) (a .m) (search needs) (search needs), month-some (a .y) (a .m) (search needs) (search needs), leap-small (a .y)))
+
+mul-result-2 : tie.Need-mul-result-2
+mul-result-2 c = search needs
+
+array-read-result-2 : tie.Need-array-read-result-2
+array-read-result-2 c = search needs
+
+leap-requires : tie.Need-leap-requires
+leap-requires c κs = search needs
+
+add-result : tie.Need-add-result
+add-result c =
+    let a = c .before .before .args in
+    let t : getD befores (a .m - 1) 0 + leapDay (a .y) ≡ daysBefore (a .y) (a .m) = simp (lt-leb (a .m) 2 (c .before .if1 .left)) at (before-table (a .y) (a .m) (search needs) (search needs)) in
+    omega (arith, t, month-inside (a .y) (a .m) (search needs) (search needs), leap-small (a .y))
+
+returns-2 : tie.Need-returns-2
+returns-2 c =
+    let a = c .before .before .args in
+    let t : getD befores (a .m - 1) 0 + leapDay (a .y) ≡ daysBefore (a .y) (a .m) = simp (lt-leb (a .m) 2 (c .before .if1 .left)) at (before-table (a .y) (a .m) (search needs) (search needs)) in
+    (rw (c .leap .ensures .0) t, omega (arith, t, c .leap .ensures .0, month-inside (a .y) (a .m) (search needs) (search needs), month-some (a .y) (a .m) (search needs) (search needs), leap-small (a .y)))
+
+pub before-spec : {M : Type 1} → statement M
+before-spec =
+    tie.close
+    (tie.spec
+    sub-i
+    mul-result
+    array-read-result
+    returns
+    mul-result-2
+    array-read-result-2
+    leap-requires
+    add-result
+    returns-2)

@@ -1,0 +1,103 @@
+-- Service (a): Gregorian dates and day numbers. Leap years, the lengths of the months, and days counted from 1600-01-01.
+use Prim.Native.Nat.{ℕ, zero, suc, _+_, _-_, _%_}
+use mathlib.Core.Bool.{Bool, cond, not, _&&_, _||_}
+use mathlib.Core.List.{List, [], _∷_}
+use lib.Dec.{eqb, ltb}
+use lib.IntN.{ℤ, pos, _-ℤ_}
+use lib.ListN.{take, getD}
+use Rattle.calendar.specs.Limits.{firstYear, lastYear}
+use Rattle.calendar.specs.Instants.{outside, indexAt}
+use Rattle.calendar.specs.declared.Date.{Date}
+use Rattle.calendar.specs.declared.DayAnswer.{DayAnswer}
+use Rattle.calendar.specs.declared.DayAnswer.the-variants.{Day, NoDay}
+use Rattle.calendar.specs.declared.DateAnswer.{DateAnswer}
+use Rattle.calendar.specs.declared.DateAnswer.the-variants.{OnDate, NoDate}
+
+abbrev pub date : ℕ → ℕ → ℕ → Date
+date y m d = record { year = y; month = m; day = d }
+
+-- every fourth year, but of the hundredth years only every four-hundredth
+unfoldable pub leapYear : ℕ → Bool
+leapYear y = eqb (y % 4) 0 && (not (eqb (y % 100) 0) || eqb (y % 400) 0)
+
+-- the lengths of the twelve months, in a leap year and in another
+unfoldable pub monthLengths : Bool → List ℕ
+monthLengths leap = 31 ∷ cond leap 29 28 ∷ 31 ∷ 30 ∷ 31 ∷ 30 ∷ 31 ∷ 31 ∷ 30 ∷ 31 ∷ 30 ∷ 31 ∷ []
+
+-- the length of the month m of the year y
+unfoldable pub monthLength : ℕ → ℕ → ℕ
+monthLength y m = getD (monthLengths (leapYear y)) (m - 1) 0
+
+unfoldable pub sum : List ℕ → ℕ
+sum [] = 0
+sum (x ∷ xs) = x + sum xs
+
+-- the days of a year
+unfoldable pub yearLength : ℕ → ℕ
+yearLength y = sum (monthLengths (leapYear y))
+
+-- the days of the k years from 1600 on
+unfoldable pub daysOfYears : ℕ → ℕ
+daysOfYears zero = 0
+daysOfYears (suc k) = daysOfYears k + yearLength (1600 + k)
+
+-- the days of the year y before its month m
+unfoldable pub daysBefore : ℕ → ℕ → ℕ
+daysBefore y m = sum (take (m - 1) (monthLengths (leapYear y)))
+
+-- the days from 1600-01-01 to a date
+unfoldable pub indexOf : Date → ℕ
+indexOf t = daysOfYears (t .year - 1600) + daysBefore (t .year) (t .month) + (t .day - 1)
+
+-- the day number of the index n
+unfoldable pub numberOf : ℕ → ℤ
+numberOf n = pos n -ℤ pos 94553
+
+-- the day after a date
+unfoldable pub next : Date → Date
+next t =
+    cond (ltb (t .day) (monthLength (t .year) (t .month))) (date (t .year) (t .month) (t .day + 1))
+    (cond (ltb (t .month) 12) (date (t .year) (t .month + 1) 1)
+    (date (t .year + 1) 1 1))
+
+-- the date n days after 1600-01-01
+unfoldable pub dateAfter : ℕ → Date
+dateAfter zero = date 1600 1 1
+dateAfter (suc n) = next (dateAfter n)
+
+-- a date's day number, or the first of the refusals 1, 2 and 3 that applies
+unfoldable pub dayOf : ℕ → ℕ → ℕ → DayAnswer
+dayOf y m d =
+    cond (ltb y firstYear || ltb lastYear y) (NoDay 1)
+    (cond (ltb m 1 || ltb 12 m) (NoDay 2)
+    (cond (ltb d 1 || ltb (monthLength y m) d) (NoDay 3)
+    (Day (numberOf (indexOf (date y m d))))))
+
+-- a day number's date, or refusal 8
+unfoldable pub dateOf : ℤ → DateAnswer
+dateOf z = cond (outside z) (NoDate 8) (OnDate (dateAfter (indexAt z)))
+
+-- the numbers that the exported calls give for an answer: 0 for success, and zeros beside a refusal
+abbrev pub dayNumberOf : DayAnswer → ℤ
+dayNumberOf (Day d) = d
+dayNumberOf (NoDay n) = pos 0
+
+abbrev pub dayRefusalOf : DayAnswer → ℕ
+dayRefusalOf (Day d) = 0
+dayRefusalOf (NoDay n) = n
+
+abbrev pub yearOf : DateAnswer → ℕ
+yearOf (OnDate t) = t .year
+yearOf (NoDate n) = 0
+
+abbrev pub monthOf : DateAnswer → ℕ
+monthOf (OnDate t) = t .month
+monthOf (NoDate n) = 0
+
+abbrev pub dayOfMonthOf : DateAnswer → ℕ
+dayOfMonthOf (OnDate t) = t .day
+dayOfMonthOf (NoDate n) = 0
+
+abbrev pub dateRefusalOf : DateAnswer → ℕ
+dateRefusalOf (OnDate t) = 0
+dateRefusalOf (NoDate n) = n

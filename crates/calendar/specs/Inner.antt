@@ -1,0 +1,36 @@
+-- What only the contracts of the code's own functions cite.
+use Prim.Native.Nat.{ℕ, _+_, _-_, _*_, _/_, _≤_, _<_}
+use mathlib.Core.Path.{_≡_}
+use mathlib.Core.Bool.{cond}
+use mathlib.Core.Logic.{_⊎_}
+use lib.Dec.{ltb}
+use lib.IntN.{ℤ}
+use Rattle.calendar.specs.Instants.{outside, indexAt}
+use Rattle.calendar.specs.Dates.{leapYear, daysOfYears}
+use Rattle.calendar.specs.declared.DayIndex.{DayIndex}
+use Rattle.calendar.specs.declared.DayIndex.the-variants.{At, Outside}
+use Rattle.calendar.specs.declared.YearDay.{YearDay}
+
+-- a leap year's extra day
+unfoldable pub leapDay : ℕ → ℕ
+leapDay y = cond (leapYear y) 1 0
+
+-- a day number's index, or that it is outside the range
+unfoldable pub dayIndex : ℤ → DayIndex
+dayIndex z = cond (outside z) Outside (At (indexAt z))
+
+-- the month of the day e of a year, counted from 0, by arithmetic
+abbrev pub monthAt : ℕ → ℕ → ℕ
+monthAt leap e = cond (ltb e (59 + leap)) ((12 * e + 373) / 367) ((12 * (e + 2 - leap) + 373) / 367)
+
+-- the lesser of x and 3
+pub record AtMost3 (x r : ℕ) : Type 0 where
+  pub small : r ≤ 3
+  pub low : r ≤ x
+  pub either : (x ≤ r) ⊎ (r ≡ 3)
+
+-- p is the day n days after 1600-01-01
+pub record IsYearDay (n : ℕ) (p : YearDay) : Type 0 where
+  pub late : 1600 ≤ p .year
+  pub counts : daysOfYears (p .year - 1600) + p .rest ≡ n
+  pub inside : p .rest < 365 + leapDay (p .year)

@@ -1,0 +1,38 @@
+-- An instant is a day number (Modified Julian Date) and the microseconds of that day, in Terrestrial Time. Which instants are accepted.
+use Prim.Native.Nat.{ℕ}
+use mathlib.Core.Path.{_≡_}
+use mathlib.Core.Bool.{Bool, cond, _||_}
+use lib.Dec.{leb}
+use lib.IntN.{ℤ, pos, _+ℤ_, natAbs}
+use lib.Signed.{ltZ}
+use Rattle.calendar.specs.Limits.{firstDay, lastDay, dayMicros}
+use Rattle.calendar.specs.declared.Instant.{Instant}
+use Rattle.calendar.specs.declared.Acceptance.{Acceptance}
+use Rattle.calendar.specs.declared.Acceptance.the-variants.{Accepted, NotAccepted}
+
+abbrev pub instant : ℤ → ℕ → Instant
+instant d m = record { day = d; micros = m }
+
+-- a day number outside the range
+unfoldable pub outside : ℤ → Bool
+outside d = ltZ d firstDay || ltZ lastDay d
+
+-- the index of a day number: the days since 1600-01-01, whose day number is -94553
+unfoldable pub indexAt : ℤ → ℕ
+indexAt d = natAbs (d +ℤ pos 94553)
+
+-- the first of the refusals 8 and 9 that applies to an instant, or the index of its day
+unfoldable pub acceptance : ℤ → ℕ → Acceptance
+acceptance d m =
+    cond (outside d) (NotAccepted 8)
+    (cond (leb dayMicros m) (NotAccepted 9)
+    (Accepted (indexAt d)))
+
+-- neither applies
+abbrev pub IsAccepted : ℤ → ℕ → Type 0
+IsAccepted d m = acceptance d m ≡ Accepted (indexAt d)
+
+-- the refusal number of an instant, 0 for an accepted one
+abbrev pub acceptanceRefusal : Acceptance → ℕ
+acceptanceRefusal (Accepted i) = 0
+acceptanceRefusal (NotAccepted n) = n

@@ -1,0 +1,272 @@
+// Dates, day numbers (MJD), instants and times of day.
+ghost use mathlib.Core.Path.{_≡_};
+ghost use Prim.Native.Nat.{_+_, _≤_, _<_};
+ghost use Rattle.calendar.specs.Instants.{acceptance};
+ghost use Rattle.calendar.specs.Dates.{monthLength, daysOfYears, daysBefore, dateAfter, numberOf, dayOf, dateOf};
+ghost use Rattle.calendar.specs.Times.{timeOf, instantOf};
+ghost use Rattle.calendar.specs.Inner.{leapDay, dayIndex, monthAt, AtMost3, IsYearDay};
+
+// The limits, each in this one place.
+const FIRST_YEAR: u64 = 1900;
+
+const LAST_YEAR: u64 = 2100;
+
+const FIRST_DAY: i64 = 15020;
+
+const LAST_DAY: i64 = 88433;
+
+const DAY_MICROS: u64 = 86400000000;
+
+pub struct Date {
+    pub year: u64,
+    pub month: u64,
+    pub day: u64,
+}
+
+pub struct Instant {
+    pub day: i64,
+    pub micros: u64,
+}
+
+pub enum DayAnswer {
+    Day(i64),
+    NoDay(u32),
+}
+
+pub enum DateAnswer {
+    OnDate(Date),
+    NoDate(u32),
+}
+
+pub enum InstantAnswer {
+    AtInstant(Instant),
+    NoInstant(u32),
+}
+
+// The index of an accepted instant's day, or refusal 8 or 9.
+pub enum Acceptance {
+    Accepted(u64),
+    NotAccepted(u32),
+}
+
+enum DayIndex {
+    At(u64),
+    Outside,
+}
+
+// A year from 1600 on, and a day of it, counted from 0.
+struct YearDay {
+    year: u64,
+    rest: u64,
+}
+
+// The days of a common year before each month.
+const BEFORE: [u64; 12] = [0, 31, 59, 90, 120, 151, 181, 212, 243, 273, 304, 334];
+
+// The lengths of the months in a common year.
+const LENGTHS: [u64; 12] = [31, 28, 31, 30, 31, 30, 31, 31, 30, 31, 30, 31];
+
+// 1 in a leap year, 0 in another.
+fn leap(y: u64) -> u64
+    ensures { λ r. ⌜ (r ≡ leapDay y) × (r ≤ 1) ⌝ }
+{
+    if y % 4 != 0 {
+        return 0;
+    }
+    if y % 100 != 0 {
+        return 1;
+    }
+    if y % 400 != 0 {
+        return 0;
+    }
+    1
+}
+
+// The days of the k years from 1600 on.
+fn years(k: u64) -> u64
+    requires { ⌜ k ≤ 801 ⌝ }
+    ensures { λ r. ⌜ (r ≡ daysOfYears k) × (r < 293300) ⌝ }
+{
+    365 * k + (k + 3) / 4 + (k + 399) / 400 - (k + 99) / 100
+}
+
+fn month_length(y: u64, m: u64) -> u64
+    requires { ⌜ (1 ≤ m) × (m ≤ 12) ⌝ }
+    ensures { λ r. ⌜ (r ≡ monthLength y m) × (r < 32) ⌝ }
+{
+    let i = (m - 1) as usize;
+    if m == 2 {
+        return 28 + leap(y);
+    }
+    LENGTHS[i]
+}
+
+fn before(y: u64, m: u64) -> u64
+    requires { ⌜ (1 ≤ m) × (m ≤ 12) ⌝ }
+    ensures { λ r. ⌜ (r ≡ daysBefore y m) × (r < 366) ⌝ }
+{
+    let i = (m - 1) as usize;
+    if m <= 2 {
+        return BEFORE[i];
+    }
+    BEFORE[i] + leap(y)
+}
+
+fn number(n: u64) -> i64
+    requires { ⌜ n < 1000000 ⌝ }
+    ensures { λ r. ⌜ r ≡ numberOf n ⌝ }
+{
+    (n as i64) - 94553
+}
+
+// The day number of a date, or refusal 1, 2 or 3.
+pub fn day_of(year: u64, month: u64, day: u64) -> DayAnswer
+    ensures { λ r. ⌜ r ≡ dayOf year month day ⌝ }
+{
+    if year < FIRST_YEAR {
+        return DayAnswer::NoDay(1);
+    }
+    if LAST_YEAR < year {
+        return DayAnswer::NoDay(1);
+    }
+    if month < 1 {
+        return DayAnswer::NoDay(2);
+    }
+    if 12 < month {
+        return DayAnswer::NoDay(2);
+    }
+    if day < 1 {
+        return DayAnswer::NoDay(3);
+    }
+    if month_length(year, month) < day {
+        return DayAnswer::NoDay(3);
+    }
+    DayAnswer::Day(number(years(year - 1600) + before(year, month) + (day - 1)))
+}
+
+// The month of the day e of a year, counted from 0.
+fn month(leap: u64, e: u64) -> u64
+    requires { ⌜ (leap ≤ 1) × (e < 365 + leap) ⌝ }
+    ensures { λ r. ⌜ r ≡ monthAt leap e ⌝ }
+{
+    if e < 59 + leap {
+        return (12 * e + 373) / 367;
+    }
+    (12 * (e + 2 - leap) + 373) / 367
+}
+
+// At most 3.
+fn capped(x: u64) -> u64
+    ensures { λ r. ⌜ AtMost3 x r ⌝ }
+{
+    if x < 3 { x } else { 3 }
+}
+
+// The year of the day n, and the day of that year: groups of 400, 100 and 4 years, and years, from 1201-01-01 on.
+fn year_day(n: u64) -> YearDay
+    requires { ⌜ n < 1000000 ⌝ }
+    ensures { λ r. ⌜ IsYearDay n r ⌝ }
+{
+    let t = n + 145731;
+    let a = t / 146097;
+    let ra = t % 146097;
+    let b = capped(ra / 36524);
+    let rb = ra - b * 36524;
+    let c = rb / 1461;
+    let rc = rb % 1461;
+    let d = capped(rc / 365);
+    YearDay {
+        year: 1201 + 400 * a + 100 * b + 4 * c + d,
+        rest: rc - d * 365,
+    }
+}
+
+// The date n days after 1600-01-01.
+fn date_after(n: u64) -> Date
+    requires { ⌜ n < 1000000 ⌝ }
+    ensures { λ r. ⌜ r ≡ dateAfter n ⌝ }
+{
+    let p = year_day(n);
+    let m = month(leap(p.year), p.rest);
+    Date {
+        year: p.year,
+        month: m,
+        day: p.rest - before(p.year, m) + 1,
+    }
+}
+
+// A day number's index from 1600-01-01. The one place where a day number's sign is looked at.
+fn day_index(day: i64) -> DayIndex
+    ensures { λ r. ⌜ r ≡ dayIndex day ⌝ }
+{
+    if day < FIRST_DAY {
+        return DayIndex::Outside;
+    }
+    if LAST_DAY < day {
+        return DayIndex::Outside;
+    }
+    DayIndex::At((day + 94553) as u64)
+}
+
+// The date of a day number, or refusal 8.
+pub fn date_of(day: i64) -> DateAnswer
+    ensures { λ r. ⌜ r ≡ dateOf day ⌝ }
+{
+    match day_index(day) {
+        DayIndex::Outside => DateAnswer::NoDate(8),
+        DayIndex::At(n) => DateAnswer::OnDate(date_after(n)),
+    }
+}
+
+// Whether an instant is accepted: the index of its day, or refusal 8 or 9. Every service asks here.
+pub fn accept(day: i64, micros: u64) -> Acceptance
+    ensures { λ r. ⌜ r ≡ acceptance day micros ⌝ }
+{
+    let DayIndex::At(n) = day_index(day) else {
+        return Acceptance::NotAccepted(8);
+    };
+    if DAY_MICROS <= micros {
+        return Acceptance::NotAccepted(9);
+    }
+    Acceptance::Accepted(n)
+}
+
+// The instant of a time on a day, or refusal 4, 5, 6 or 7.
+fn time_of(day: i64, hour: u64, minute: u64, second: u64, microsecond: u64) -> InstantAnswer
+    ensures { λ r. ⌜ r ≡ timeOf day hour minute second microsecond ⌝ }
+{
+    if 23 < hour {
+        return InstantAnswer::NoInstant(4);
+    }
+    if 59 < minute {
+        return InstantAnswer::NoInstant(5);
+    }
+    if 59 < second {
+        return InstantAnswer::NoInstant(6);
+    }
+    if 999999 < microsecond {
+        return InstantAnswer::NoInstant(7);
+    }
+    InstantAnswer::AtInstant(Instant {
+        day: day,
+        micros: ((hour * 60 + minute) * 60 + second) * 1000000 + microsecond,
+    })
+}
+
+// The instant of a date and a time of day, or refusal 1 to 7.
+pub fn instant_of(
+    year: u64,
+    month: u64,
+    day: u64,
+    hour: u64,
+    minute: u64,
+    second: u64,
+    microsecond: u64,
+) -> InstantAnswer
+    ensures { λ r. ⌜ r ≡ instantOf year month day hour minute second microsecond ⌝ }
+{
+    match day_of(year, month, day) {
+        DayAnswer::NoDay(n) => InstantAnswer::NoInstant(n),
+        DayAnswer::Day(d) => time_of(d, hour, minute, second, microsecond),
+    }
+}
