@@ -1,0 +1,2 @@
+-- Service (c): an instant as two clock words.
+pub mod Words

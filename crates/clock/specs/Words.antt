@@ -1,0 +1,70 @@
+-- Service (c): an instant split into a day word and a time word, and the two joined again.
+use Prim.Native.Nat.{ℕ, _+_, _-_, _*_, _/_, _%_}
+use mathlib.Core.Bool.{cond}
+use lib.Dec.{eqb}
+use lib.IntN.{ℤ, pos, negsuc}
+use Rattle.calendar.specs.declared.Acceptance.{Acceptance}
+use Rattle.calendar.specs.declared.Acceptance.the-variants.{Accepted, NotAccepted}
+use Rattle.calendar.specs.Instants.{instant, acceptance}
+use Rattle.clock.specs.declared.ClockWords.{ClockWords}
+use Rattle.clock.specs.declared.SplitAnswer.{SplitAnswer}
+use Rattle.clock.specs.declared.SplitAnswer.the-variants.{Split, NoSplit}
+use Rattle.clock.specs.declared.JoinAnswer.{JoinAnswer}
+use Rattle.clock.specs.declared.JoinAnswer.the-variants.{Joined, NoJoin}
+
+-- what one mark weighs in a time word: 2^37, more than the microseconds of a day
+abbrev pub markUnit : ℕ
+markUnit = 137_438_953_472
+
+-- the mark of a day number: its least remainder by 8 that is not negative
+abbrev pub mark : ℤ → ℕ
+mark (pos n) = n % 8
+mark (negsuc n) = 7 - n % 8
+
+-- the microseconds, with the day's mark above them
+abbrev pub timeWord : ℤ → ℕ → ℕ
+timeWord d m = m + mark d * markUnit
+
+abbrev pub words : ℤ → ℕ → ClockWords
+words d t = record { day = d; time = t }
+
+-- the words of an instant, or its refusal: 8, 9
+abbrev pub splitBy : Acceptance → ℤ → ℕ → SplitAnswer
+splitBy (Accepted i) d m = Split (words d (timeWord d m))
+splitBy (NotAccepted n) d m = NoSplit n
+
+unfoldable pub splitOf : ℤ → ℕ → SplitAnswer
+splitOf d m = splitBy (acceptance d m) d m
+
+-- the instant of a day word d and a time word t, or its refusal: 8, 9, then 10 if the marks differ
+abbrev pub joinBy : Acceptance → ℤ → ℕ → JoinAnswer
+joinBy (Accepted i) d t = cond (eqb (t / markUnit) (mark d)) (Joined (instant d (t % markUnit))) (NoJoin 10)
+joinBy (NotAccepted n) d t = NoJoin n
+
+unfoldable pub joinOf : ℤ → ℕ → JoinAnswer
+joinOf d t = joinBy (acceptance d (t % markUnit)) d t
+
+-- the numbers that the exported calls give for an answer
+abbrev pub dayWordOf : SplitAnswer → ℤ
+dayWordOf (Split w) = w .day
+dayWordOf (NoSplit n) = pos 0
+
+abbrev pub timeWordOf : SplitAnswer → ℕ
+timeWordOf (Split w) = w .time
+timeWordOf (NoSplit n) = 0
+
+abbrev pub splitRefusalOf : SplitAnswer → ℕ
+splitRefusalOf (Split w) = 0
+splitRefusalOf (NoSplit n) = n
+
+abbrev pub joinedDayOf : JoinAnswer → ℤ
+joinedDayOf (Joined t) = t .day
+joinedDayOf (NoJoin n) = pos 0
+
+abbrev pub joinedMicrosOf : JoinAnswer → ℕ
+joinedMicrosOf (Joined t) = t .micros
+joinedMicrosOf (NoJoin n) = 0
+
+abbrev pub joinRefusalOf : JoinAnswer → ℕ
+joinRefusalOf (Joined t) = 0
+joinRefusalOf (NoJoin n) = n
