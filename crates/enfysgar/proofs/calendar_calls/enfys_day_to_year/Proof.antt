@@ -1,0 +1,27 @@
+-- `enfysgar::calendar_calls::enfys_day_to_year` meets its contract. Assumes nothing.
+use mathlib.Core.Path.{_≡_, _∙_, ap, sym}
+use mir.Facts.{toZ-ofZ}
+use lib.IntN.{ℤ}
+use Rattle.calendar.specs.Dates.{dateOf, yearOf}
+use borrow.Author.Needs.{needs}
+use Rattle.enfysgar.proofs.calendar_calls.enfys_day_to_year.Statement.{statement}
+use Rattle.enfysgar.proofs.calendar_calls.enfys_day_to_year.Tie as tie
+
+date-of-requires : tie.Need-date-of-requires
+date-of-requires c κs = search needs
+
+enum-known-t : tie.Need-enum-known-t
+enum-known-t c = search needs
+
+enum-told : tie.Need-enum-told
+enum-told c = search needs
+
+returns : tie.Need-returns
+returns c = ap yearOf (sym (c .before .t .given .1) ∙ (c .before .before .before .date-of .ensures ∙ ap (λ (d : ℤ). dateOf d) (toZ-ofZ (c .before .before .before .before .fits .day))))
+
+returns-2 : tie.Need-returns-2
+returns-2 c = ap yearOf (sym (c .enum-told .given .1) ∙ (c .before .before .date-of .ensures ∙ ap (λ (d : ℤ). dateOf d) (toZ-ofZ (c .before .before .before .fits .day))))
+
+pub enfys-day-to-year-spec : {M : Type 1} → statement M
+enfys-day-to-year-spec =
+    tie.close (tie.spec date-of-requires enum-known-t enum-told returns returns-2)

@@ -1,0 +1,27 @@
+-- `enfysgar::clock_calls::enfys_split_time_word` meets its contract. Assumes nothing.
+use mathlib.Core.Path.{_≡_, _∙_, ap, sym}
+use mir.Facts.{toZ-ofZ}
+use lib.IntN.{ℤ}
+use Rattle.clock.specs.Words.{splitOf, timeWordOf}
+use borrow.Author.Needs.{needs}
+use Rattle.enfysgar.proofs.clock_calls.enfys_split_time_word.Statement.{statement}
+use Rattle.enfysgar.proofs.clock_calls.enfys_split_time_word.Tie as tie
+
+split-requires : tie.Need-split-requires
+split-requires c κs = search needs
+
+enum-known-w : tie.Need-enum-known-w
+enum-known-w c = search needs
+
+enum-told : tie.Need-enum-told
+enum-told c = search needs
+
+returns : tie.Need-returns
+returns c = ap timeWordOf (sym (c .before .w .given .1) ∙ (c .before .before .before .split .ensures ∙ ap (λ (d : ℤ). splitOf d (c .before .before .before .before .args .micros)) (toZ-ofZ (c .before .before .before .before .fits .day))))
+
+returns-2 : tie.Need-returns-2
+returns-2 c = ap timeWordOf (sym (c .enum-told .given .1) ∙ (c .before .before .split .ensures ∙ ap (λ (d : ℤ). splitOf d (c .before .before .before .args .micros)) (toZ-ofZ (c .before .before .before .fits .day))))
+
+pub enfys-split-time-word-spec : {M : Type 1} → statement M
+enfys-split-time-word-spec =
+    tie.close (tie.spec split-requires enum-known-w enum-told returns returns-2)

@@ -1,0 +1,121 @@
+// Services (a) and (b): dates, day numbers and instants.
+use calendar::DateAnswer;
+use calendar::DayAnswer;
+use calendar::InstantAnswer;
+ghost use mathlib.Core.Path.{_≡_};
+ghost use Rattle.calendar.specs.Dates.{dayOf, dateOf, dayNumberOf, dayRefusalOf, yearOf, monthOf, dayOfMonthOf, dateRefusalOf};
+ghost use Rattle.calendar.specs.Times.{instantOf, instantDayOf, instantMicrosOf, instantRefusalOf};
+
+#[no_mangle]
+pub extern "C" fn enfys_date_to_day(year: u64, month: u64, day: u64) -> i64
+    ensures { λ r. ⌜ r ≡ dayNumberOf (dayOf year month day) ⌝ }
+{
+    match calendar::day_of(year, month, day) {
+        DayAnswer::Day(d) => d,
+        DayAnswer::NoDay(_) => 0,
+    }
+}
+
+#[no_mangle]
+pub extern "C" fn enfys_date_refusal(year: u64, month: u64, day: u64) -> u32
+    ensures { λ r. ⌜ r ≡ dayRefusalOf (dayOf year month day) ⌝ }
+{
+    match calendar::day_of(year, month, day) {
+        DayAnswer::Day(_) => 0,
+        DayAnswer::NoDay(n) => n,
+    }
+}
+
+#[no_mangle]
+pub extern "C" fn enfys_day_to_year(day: i64) -> u64
+    ensures { λ r. ⌜ r ≡ yearOf (dateOf day) ⌝ }
+{
+    match calendar::date_of(day) {
+        DateAnswer::OnDate(t) => t.year,
+        DateAnswer::NoDate(_) => 0,
+    }
+}
+
+#[no_mangle]
+pub extern "C" fn enfys_day_to_month(day: i64) -> u64
+    ensures { λ r. ⌜ r ≡ monthOf (dateOf day) ⌝ }
+{
+    match calendar::date_of(day) {
+        DateAnswer::OnDate(t) => t.month,
+        DateAnswer::NoDate(_) => 0,
+    }
+}
+
+#[no_mangle]
+pub extern "C" fn enfys_day_to_day_of_month(day: i64) -> u64
+    ensures { λ r. ⌜ r ≡ dayOfMonthOf (dateOf day) ⌝ }
+{
+    match calendar::date_of(day) {
+        DateAnswer::OnDate(t) => t.day,
+        DateAnswer::NoDate(_) => 0,
+    }
+}
+
+#[no_mangle]
+pub extern "C" fn enfys_day_refusal(day: i64) -> u32
+    ensures { λ r. ⌜ r ≡ dateRefusalOf (dateOf day) ⌝ }
+{
+    match calendar::date_of(day) {
+        DateAnswer::OnDate(_) => 0,
+        DateAnswer::NoDate(n) => n,
+    }
+}
+
+#[no_mangle]
+pub extern "C" fn enfys_instant_day(
+    year: u64,
+    month: u64,
+    day: u64,
+    hour: u64,
+    minute: u64,
+    second: u64,
+    microsecond: u64,
+) -> i64
+    ensures { λ r. ⌜ r ≡ instantDayOf (instantOf year month day hour minute second microsecond) ⌝ }
+{
+    match calendar::instant_of(year, month, day, hour, minute, second, microsecond) {
+        InstantAnswer::AtInstant(t) => t.day,
+        InstantAnswer::NoInstant(_) => 0,
+    }
+}
+
+#[no_mangle]
+pub extern "C" fn enfys_instant_micros(
+    year: u64,
+    month: u64,
+    day: u64,
+    hour: u64,
+    minute: u64,
+    second: u64,
+    microsecond: u64,
+) -> u64
+    ensures { λ r. ⌜ r ≡ instantMicrosOf (instantOf year month day hour minute second microsecond) ⌝ }
+{
+    match calendar::instant_of(year, month, day, hour, minute, second, microsecond) {
+        InstantAnswer::AtInstant(t) => t.micros,
+        InstantAnswer::NoInstant(_) => 0,
+    }
+}
+
+#[no_mangle]
+pub extern "C" fn enfys_instant_refusal(
+    year: u64,
+    month: u64,
+    day: u64,
+    hour: u64,
+    minute: u64,
+    second: u64,
+    microsecond: u64,
+) -> u32
+    ensures { λ r. ⌜ r ≡ instantRefusalOf (instantOf year month day hour minute second microsecond) ⌝ }
+{
+    match calendar::instant_of(year, month, day, hour, minute, second, microsecond) {
+        InstantAnswer::AtInstant(_) => 0,
+        InstantAnswer::NoInstant(n) => n,
+    }
+}
