@@ -1,0 +1,43 @@
+-- The reference values of docs/RULES.md that are proved, as rows of one list.
+use Prim.Native.Nat.{ℕ}
+use mathlib.Core.Path.{_≡_}
+use mathlib.Core.List.{List, [], _∷_}
+use lib.IntN.{ℤ, pos}
+use Rattle.calendar.specs.Dates.{dayOf}
+use Rattle.calendar.specs.declared.DayAnswer.the-variants.{Day, NoDay}
+use Rattle.clock.specs.Words.{words, splitOf, joinOf}
+use Rattle.clock.specs.declared.SplitAnswer.the-variants.{Split}
+use Rattle.clock.specs.declared.JoinAnswer.the-variants.{NoJoin}
+
+-- a row, by the kind of its statement
+pub data Row : Type 0 where
+  date-is : (year month day number : ℕ) → Row
+  date-refused : (year month day refusal : ℕ) → Row
+  time-word-is : (day micros time : ℕ) → Row
+  words-refused : (day time refusal : ℕ) → Row
+
+-- what a row says
+unfoldable pub Says : Row → Type 0
+Says (date-is y m d n) = dayOf y m d ≡ Day (pos n)
+Says (date-refused y m d r) = dayOf y m d ≡ NoDay r
+Says (time-word-is d m t) = splitOf (pos d) m ≡ Split (words (pos d) t)
+Says (words-refused d t r) = joinOf (pos d) t ≡ NoJoin r
+
+unfoldable pub EveryRow : List Row → Type 0
+EveryRow [] = Unit
+EveryRow (r ∷ rs) = Says r × EveryRow rs
+
+unfoldable pub rows : List Row
+rows =
+    date-is 1900 1 1 15020
+    ∷ date-is 2000 2 29 51603
+    ∷ date-is 2007 12 31 54465
+    ∷ date-is 2009 6 25 55007
+    ∷ date-is 2100 12 31 88433
+    ∷ date-refused 1900 2 29 3
+    ∷ date-refused 2100 2 29 3
+    ∷ date-refused 1899 12 31 1
+    ∷ date-refused 2101 1 1 1
+    ∷ time-word-is 54465 0 137438953472
+    ∷ words-refused 54465 274877906944 10
+    ∷ []
