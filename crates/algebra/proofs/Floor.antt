@@ -9,16 +9,11 @@ use Rattle.algebra.specs.Near.{Near}
 use Rattle.algebra.proofs.Order.{_≼_, ≼-trans, le-plus, atom, linear, to-ℕ, of-ℕ, pos-le}
 use Rattle.algebra.proofs.Near.{near-of, near-ℕ}
 
+-- rounded down, of a natural number
 pub near-floor : (n d : ℕ) → 0 < d → Near (pos (n / d) *ℤ pos d) (pos n) (d - 1)
-near-floor n d h = near-ℕ lo hi
-  where
-    lo : n / d * d ≤ n + (d - 1)
-    lo = omega (arith, N.div-mul-le-self n d)
+near-floor n d h = near-ℕ (omega (arith, N.div-mul-le-self n d)) (omega (arith, N.lt-div-mul-add {a = n} h))
 
-    hi : n ≤ n / d * d + (d - 1)
-    hi = omega (arith, N.lt-div-mul-add {a = n} h)
-
--- the shift that rounds down, of either sign: 0 ≤ z − ⌊z / d⌋·d ≤ d − 1
+-- rounded down, of either sign
 pub shr-le : (z : ℤ) (d : ℕ) → 0 < d → shrZ z d *ℤ pos d ≼ z
 shr-le (pos n) d h = pos-le (N.div-mul-le-self n d)
 shr-le (negsuc n) d h = of-ℕ (search linear) (omega (arith, N.lt-div-mul-add {a = n} h))

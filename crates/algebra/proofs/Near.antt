@@ -1,7 +1,7 @@
 -- The calculus of distances: `Near x y e` says |x − y| ≤ e, of integers. A bound of fractions is one of these over a common denominator.
 -- Assumes nothing.
 use mathlib.Core.Path.{_≡_, refl, sym, _∙_, ap, ap₂}
-use Prim.Native.Nat.{ℕ, zero, suc, _+_, _*_, _-_, _≤_, _<_}
+use Prim.Native.Nat.{ℕ, zero, suc, _+_, _*_, _≤_, _<_}
 use native.Mathlib.Nat as N
 use native.Mathlib.Nat.{le-trans, le-of-eq, add-le-add, mul-le-mul, lt-of-le-of-lt, lt-of-mul-lt-mul-left}
 use native.Mathlib.Omega.{arith}

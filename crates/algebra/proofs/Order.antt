@@ -156,20 +156,6 @@ of-ℕ {x} {y} s h =
     let p = s .left in let q = s .right in let d = N.le-dest h in
     le-intro (d .0) (le-down (pos (p .up)) (pos (p .down)) (pos (q .up)) (pos (q .down)) x y (pos (d .0)) (p .is) (q .is) (ap pos (sym (d .1))))
 
-pub eq-to-ℕ : {x y : ℤ} (s : Sides x y) → x ≡ y → s .left .up + s .right .down ≡ s .right .up + s .left .down
-eq-to-ℕ {x} {y} s h =
-    let p = s .left in let q = s .right in
-    ap natAbs (alg (pos (p .up)) (pos (p .down)) (pos (q .up)) (pos (q .down)) (sym (p .is) ∙ h ∙ q .is))
-  where
-    alg₁ : (a b d : ℤ) → a +ℤ d ≡ (a -ℤ b) +ℤ b +ℤ d
-    alg₁ a b d = ring (a ▸ b ▸ d ▸ end) (search quote depth 13) tt
-
-    alg₂ : (b c d : ℤ) → (c -ℤ d) +ℤ b +ℤ d ≡ c +ℤ b
-    alg₂ b c d = ring (b ▸ c ▸ d ▸ end) (search quote depth 13) tt
-
-    alg : (a b c d : ℤ) → a -ℤ b ≡ c -ℤ d → a +ℤ d ≡ c +ℤ b
-    alg a b c d e = alg₁ a b d ∙ ap (λ (z : ℤ). z +ℤ b +ℤ d) e ∙ alg₂ b c d
-
 -- ---- the order's laws
 
 pub ≼-refl : (a : ℤ) → a ≼ a
@@ -197,18 +183,6 @@ pub ≼-add : {a b c d : ℤ} → a ≼ b → c ≼ d → a +ℤ c ≼ b +ℤ d
 
 pub ≼-neg : {a b : ℤ} → a ≼ b → negℤ b ≼ negℤ a
 ≼-neg {a} {b} h = let la = atom a in let lb = atom b in of-ℕ (search linear) (omega (arith, to-ℕ (search linear) h))
-
--- by a natural number, as every number that is not negative is one
-pub ≼-mul : (n : ℕ) {a b : ℤ} → a ≼ b → pos n *ℤ a ≼ pos n *ℤ b
-≼-mul n {a} {b} h = let la = atom a in let lb = atom b in of-ℕ (search linear) (omega (arith, N.mul-le-mul-left n (to-ℕ (search linear) h)))
-
-pub ≼-mul-cancel : (n : ℕ) {a b : ℤ} → 0 < n → pos n *ℤ a ≼ pos n *ℤ b → a ≼ b
-≼-mul-cancel n {a} {b} z h =
-    let la = atom a in let lb = atom b in
-    of-ℕ (search linear) (N.le-of-mul-le-mul-left (go (to-ℕ (search linear) h)) z)
-  where
-    go : n * plus a + 0 * minus a + (n * minus b + 0 * plus b) ≤ n * plus b + 0 * minus b + (n * minus a + 0 * plus a) → n * (plus a + minus b) ≤ n * (plus b + minus a)
-    go h = omega arith
 
 pub pos-le : {m n : ℕ} → m ≤ n → pos m ≼ pos n
 pos-le {m} {n} h = leZ-yes (le→leb m n h)

@@ -9,10 +9,10 @@ use lib.ListN.{getD}
 use Rattle.calendar.specs.Limits.{dayMicros}
 use Rattle.arguments.specs.declared.Half.{Half}
 use Rattle.arguments.specs.Ours.{moment, high, perCentury, term₃, term₂, term₁, halfAt, up₁, down₁, up₂, down₂, up₃, down₃, up₄, down₄, up₅, down₅, argument, ourArguments}
-use Rattle.arguments.specs.Inner.{days, latest, HalfBounds}
+use Rattle.arguments.specs.Inner.{daysCovered, latest, HalfBounds}
 
 -- the moments of the days
-pub moment-le : (i m : ℕ) → i < days → m < dayMicros → moment i m ≤ latest
+pub moment-le : (i m : ℕ) → i < daysCovered → m < dayMicros → moment i m ≤ latest
 moment-le i m hi hm = omega arith
 
 -- nine centuries and a little, with 24 binary places

@@ -22,7 +22,7 @@ use Rattle.arguments.specs.declared.Half.{Half}
 use Rattle.arguments.specs.Table.{multipliers}
 use Rattle.arguments.specs.Exact.{sinceJ2000, century, Polynomial, value, F1, F2, F3, F4, F5, turn, turnParts, exactArguments, combination, exactAngle}
 use Rattle.arguments.specs.Ours.{moment, halfAt, up₁, down₁, up₂, down₂, up₃, down₃, up₄, down₄, up₅, down₅, argument, ourArguments, column, columns, ourAngle}
-use Rattle.arguments.specs.Inner.{days, latest}
+use Rattle.arguments.specs.Inner.{daysCovered, latest}
 use Rattle.arguments.proofs.Bounds.{argument-less, moment-le}
 use Rattle.arguments.proofs.Quartic.{argumentError, argument-near}
 
@@ -124,7 +124,7 @@ moment-is i m = ring (i ▹ m ▹ end) (search quote depth 13) tt
 
 -- On the day of index i and day number d, at the microsecond m, our angle of the row r and the exact one are within `angleDistance` units of
 -- 2^-41 turn, but for whole turns.
-pub angle-near : (d : ℤ) (i m r : ℕ) → d ≡ pos i -ℤ pos 94553 → i < days → m < dayMicros → r < length multipliers
+pub angle-near : (d : ℤ) (i m r : ℕ) → d ≡ pos i -ℤ pos 94553 → i < daysCovered → m < dayMicros → r < length multipliers
     → Turns (2 ^ 41) turnParts (pos (ourAngle r (moment i m))) (pos (exactAngle r (sinceJ2000 d m))) angleDistance
 angle-near d i m r hd hi hm hr =
     subst (λ (n : ℤ). Turns (2 ^ 41) turnParts (pos (ourAngle r (moment i m))) (pos (exactAngle r n)) angleDistance) (sym (ap (λ (z : ℤ). sinceJ2000 z m) hd ∙ moment-is i m))

@@ -10,12 +10,12 @@ use Rattle.arguments.specs.declared.Half.{Half}
 use Rattle.arguments.specs.Ours.{moment, high, perCentury}
 
 -- the days from 1600-01-01 to 2400-12-31: a day's index is below this
-abbrev pub days : ℕ
-days = 292560
+abbrev pub daysCovered : ℕ
+daysCovered = 292560
 
 -- the last moment of these days
 abbrev pub latest : ℕ
-latest = moment (days - 1) (dayMicros - 1)
+latest = moment (daysCovered - 1) (dayMicros - 1)
 
 -- the time x, the same in centuries with 24 binary places, and the constants of a half
 pub record HalfBounds (x s : ℕ) (k : Half) : Type 0 where

@@ -7,7 +7,7 @@ ghost use mathlib.Core.List.{[]};
 ghost use Rattle.arguments.specs.Table.{multipliers};
 ghost use Rattle.calendar.specs.Limits.{dayMicros};
 ghost use Rattle.arguments.specs.Ours as ours;
-ghost use Rattle.arguments.specs.Inner.{days, latest, HalfBounds, Multiplier};
+ghost use Rattle.arguments.specs.Inner.{daysCovered, latest, HalfBounds, Multiplier};
 
 // The upper half of the product of two numbers of 64 bits, by halves of 32 bits.
 pub fn high(a: u64, b: u64) -> u64
@@ -24,7 +24,7 @@ pub fn high(a: u64, b: u64) -> u64
 
 // The microseconds since five centuries before J2000.0: of a day's index, counted from 1600-01-01, and the microseconds of that day.
 pub fn moment(index: u64, micros: u64) -> u64
-    requires { ⌜ (index < days) × (micros < dayMicros) ⌝ }
+    requires { ⌜ (index < daysCovered) × (micros < dayMicros) ⌝ }
     ensures { λ r. ⌜ r ≡ ours.moment index micros ⌝ }
 {
     (index + 36527) * 86400000000 + 43200000000 + micros

@@ -16,7 +16,7 @@ unfolding nested
 nested-small F z c [] = N.le-refl c
 nested-small F z c (d ∷ ds) = N.sub-le c (z * nested F z d ds / F)
 
--- 1.42 in units of 2^-31. Up to nine tenths of a quarter the first constant is enough, and from there on the second.
+-- the most that our sine and cosine are, in units of 2^-31: up to nine tenths of a quarter the first constant shows it, and from there on the second
 abbrev pub sineMost : ℕ
 sineMost = 3040000000
 
