@@ -1,0 +1,10 @@
+pub mod Tests
+pub mod Integers
+pub mod Polynomial
+pub mod Ring
+pub mod Order
+pub mod Near
+pub mod Floor
+pub mod Turns
+pub mod Series
+pub mod Fits

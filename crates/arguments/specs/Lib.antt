@@ -1,0 +1,4 @@
+pub mod Table
+pub mod Exact
+pub mod Ours
+pub mod Inner

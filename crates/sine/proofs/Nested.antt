@@ -1,0 +1,147 @@
+-- Our nested sum against the exact one. The exact one is c₀ - x*(c₁ - x*(c₂ - ..)), whose constants are a / (100 * m) for each a of a list,
+-- and whose x is w / W. Ours has x = z / F and its constants in units of 1 / F, and rounds each product down: z * p / F.
+-- Errors are in hundredths of a unit of 1 / F.
+-- Assumes nothing.
+use mathlib.Core.Path.{_≡_, refl, _∙_, ap}
+use mathlib.Core.Bool.{Bool, false, _&&_}
+use mathlib.Core.List.{List, [], _∷_}
+use Prim.Native.Nat.{ℕ, suc, _+_, _*_, _/_, _≤_, _<_}
+use native.Mathlib.Nat as N
+use native.Mathlib.Nat.{le-trans, le-of-eq, mul-le-mul}
+use native.Mathlib.Omega.{arith}
+use lib.Dec.{T, leb, leb→le}
+use lib.IntN.{ℤ, pos, negℤ, _-ℤ_, _*ℤ_, natAbs}
+use Rattle.algebra.specs.Near.{Near}
+use Rattle.algebra.proofs.Tests.{and-split}
+use Rattle.algebra.proofs.Ring.{end, _▸_, ring, quote}
+use Rattle.algebra.proofs.Order.{pos-sub, abs-mul, abs-neg}
+use Rattle.algebra.proofs.Near.{near, near-ℕ, near-as, near-wide, near-trans, near-scale, near-unscale, near-sub, near-refl, abs-sum}
+use Rattle.algebra.proofs.Floor.{near-floor}
+use Rattle.sine.specs.Ours.{nested}
+
+-- ---- the exact sum, over the denominator 100 * m * power W bs
+
+abbrev pub power : ℕ → List ℕ → ℕ
+power W [] = 1
+power W (a ∷ bs) = W * power W bs
+
+abbrev pub exactNested : ℕ → ℕ → ℕ → List ℕ → ℤ
+exactNested W w a [] = pos a
+exactNested W w a (b ∷ bs) = pos (a * (W * power W bs)) -ℤ pos w *ℤ exactNested W w b bs
+
+abbrev pub total : List ℕ → ℕ
+total [] = 0
+total (a ∷ bs) = a + total bs
+
+exact-small : (W w : ℕ) → w ≤ W → (a : ℕ) (bs : List ℕ) → natAbs (exactNested W w a bs) ≤ (a + total bs) * power W bs
+exact-small W w h a [] = omega arith
+exact-small W w h a (b ∷ bs) =
+    le-trans (abs-sum (pos (a * (W * power W bs))) (negℤ (pos w *ℤ exactNested W w b bs)) refl (N.le-refl (a * (W * power W bs)))
+    (le-trans (le-of-eq (abs-neg (pos w *ℤ exactNested W w b bs) ∙ abs-mul (pos w) (exactNested W w b bs))) (mul-le-mul h (exact-small W w h b bs))))
+    (omega arith)
+
+-- ---- the tests of the constants
+
+-- c is the nearest to a / (100 * m) in units of 1 / F
+abbrev pub nearest : ℕ → ℕ → ℕ → ℕ → Bool
+nearest F m c a = leb (c * (100 * m)) (a * F + 50 * m) && leb (a * F) (c * (100 * m) + 50 * m)
+
+-- each constant is the nearest, and none is larger than the one before
+abbrev pub constantsTest : ℕ → ℕ → ℕ → List ℕ → ℕ → List ℕ → Bool
+constantsTest F m c [] a bs = nearest F m c a
+constantsTest F m c (d ∷ ds) a [] = false
+constantsTest F m c (d ∷ ds) a (b ∷ bs) = nearest F m c a && (leb d c && constantsTest F m d ds b bs)
+
+-- the error, in hundredths of a unit: half a unit for the constant, one for the product rounded down, and for z rounded down what the rest amounts to
+abbrev pub error : ℕ → ℕ → List ℕ → ℕ → List ℕ → ℕ
+error F m [] a bs = 50 + suc (total bs * F / m)
+error F m (d ∷ ds) a [] = 0
+error F m (d ∷ ds) a (b ∷ bs) = 150 + suc ((b + total bs) / m) + error F m ds b bs
+
+-- ---- one step
+
+module _ (F W w z m : ℕ) (hF : 0 < F) (hm : 0 < m) (hw : w ≤ W) (hz : z ≤ F) (nz : Near (pos z *ℤ pos W) (pos w *ℤ pos F) W) where
+  constant : (c a : ℕ) → T (nearest F m c a) → Near (pos c *ℤ pos (100 * m)) (pos a *ℤ pos F) (50 * m)
+  constant c a t = let h = and-split (leb (c * (100 * m)) (a * F + 50 * m)) (leb (a * F) (c * (100 * m) + 50 * m)) t in near-ℕ (leb→le _ _ (h .0)) (leb→le _ _ (h .1))
+
+  step : (P B e c a : ℕ) (p n q : ℤ) → natAbs n ≤ B * (m * P) → Near (pos c *ℤ pos (100 * m)) (pos a *ℤ pos F) (50 * m)
+      → Near (p *ℤ pos (100 * (m * P))) (n *ℤ pos F) (e * (m * P)) → Near (q *ℤ pos F) (pos z *ℤ p) F
+      → Near ((pos c -ℤ q) *ℤ pos (100 * (m * (W * P)))) ((pos (a * (W * P)) -ℤ pos w *ℤ n) *ℤ pos F) ((150 + B + e) * (m * (W * P)))
+  step P B e c a p n q hn nc np nq =
+      near-as (near-sub (near-scale (pos (W * P)) nc) product)
+      (ring (pos c ▸ q ▸ pos m ▸ pos W ▸ pos P ▸ end) (search quote depth 13) tt)
+      (ring (pos a ▸ pos W ▸ pos P ▸ pos w ▸ n ▸ pos F ▸ end) (search quote depth 13) tt) (omega arith)
+    where
+      K : ℕ
+      K = m * P * W
+
+      floor : Near (pos (100 * K) *ℤ (q *ℤ pos F)) (pos (100 * K) *ℤ (pos z *ℤ p)) (100 * K * F)
+      floor = near-scale (pos (100 * K)) nq
+
+      before : Near (pos (z * W) *ℤ (p *ℤ pos (100 * (m * P)))) (pos (z * W) *ℤ (n *ℤ pos F)) (z * W * (e * (m * P)))
+      before = near-scale (pos (z * W)) np
+
+      square : Near (n *ℤ pos F *ℤ (pos z *ℤ pos W)) (n *ℤ pos F *ℤ (pos w *ℤ pos F)) (natAbs (n *ℤ pos F) * W)
+      square = near-scale (n *ℤ pos F) nz
+
+      bound : natAbs (n *ℤ pos F) * W ≤ B * K * F
+      bound = le-trans (le-of-eq (ap (λ (k : ℕ). k * W) (abs-mul n (pos F)))) (omega (arith, N.mul-le-mul-right (F * W) hn))
+
+      bound₂ : z * W * (e * (m * P)) ≤ e * K * F
+      bound₂ = omega (arith, N.mul-le-mul-right (W * e * m * P) hz)
+
+      product : Near (q *ℤ pos (100 * K)) (pos w *ℤ n *ℤ pos F) ((100 + B + e) * K)
+      product = near-unscale F (near-as (near-trans floor (near-trans
+          (near-as before (ring (pos z ▸ pos W ▸ pos m ▸ pos P ▸ p ▸ end) (search quote depth 13) tt) refl bound₂)
+          (near-as square (ring (pos z ▸ pos W ▸ n ▸ pos F ▸ end) (search quote depth 13) tt) refl bound)))
+          (ring (q ▸ pos F ▸ pos m ▸ pos P ▸ pos W ▸ end) (search quote depth 13) tt) (ring (pos w ▸ n ▸ pos F ▸ end) (search quote depth 13) tt) (omega arith)) hF
+
+  -- ---- all of them
+
+  -- what follows the first constant
+  rest : (a : ℕ) (bs : List ℕ) → Near (pos (a * power W bs)) (exactNested W w a bs) (total bs * power W bs)
+  rest a [] = near-as (near-refl (pos a)) (ap pos (N.mul-one a)) refl (omega arith)
+  rest a (b ∷ bs) =
+      near (pos (a * (W * power W bs))) (exactNested W w a (b ∷ bs))
+      (le-trans (le-of-eq (ap natAbs (alg (pos (a * (W * power W bs))) (pos w *ℤ exactNested W w b bs)) ∙ abs-mul (pos w) (exactNested W w b bs)))
+      (le-trans (mul-le-mul hw (exact-small W w hw b bs)) (omega arith)))
+    where
+      alg : (x y : ℤ) → x -ℤ (x -ℤ y) ≡ y
+      alg x y = ring (x ▸ y ▸ end) (search quote depth 13) tt
+
+  -- rounded up
+  ceiling : (n : ℕ) → n ≤ suc (n / m) * m
+  ceiling n = omega (arith, N.lt-div-mul-add {a = n} hm)
+
+  pub record Good (c : ℕ) (ds : List ℕ) (a : ℕ) (bs : List ℕ) : Type 0 where
+    pub small : nested F z c ds ≤ c
+    pub close : Near (pos (nested F z c ds) *ℤ pos (100 * (m * power W bs))) (exactNested W w a bs *ℤ pos F) (error F m ds a bs * (m * power W bs))
+
+  last : (c a : ℕ) (bs : List ℕ) → T (nearest F m c a)
+      → Near (pos c *ℤ pos (100 * (m * power W bs))) (exactNested W w a bs *ℤ pos F) ((50 + suc (total bs * F / m)) * (m * power W bs))
+  last c a bs t =
+      near-as (near-trans (near-scale (pos (power W bs)) (constant c a t)) (near-as (near-scale (pos F) (rest a bs)) (alg (pos a) (pos (power W bs)) (pos F)) refl (N.le-refl _)))
+      (ring (pos c ▸ pos m ▸ pos (power W bs) ▸ end) (search quote depth 13) tt) (ring (exactNested W w a bs ▸ pos F ▸ end) (search quote depth 13) tt)
+      (omega (arith, N.mul-le-mul-right (power W bs) (ceiling (total bs * F))))
+    where
+      alg : (a p f : ℤ) → p *ℤ (a *ℤ f) ≡ f *ℤ (a *ℤ p)
+      alg a p f = ring (a ▸ p ▸ f ▸ end) (search quote depth 13) tt
+
+  pub nested-near : (c : ℕ) (ds : List ℕ) (a : ℕ) (bs : List ℕ) → T (constantsTest F m c ds a bs) → Good c ds a bs
+  unfolding nested
+  nested-near c [] a bs t = record { small = N.le-refl c; close = last c a bs t }
+  nested-near c (d ∷ ds) a [] t = absurd t
+  nested-near c (d ∷ ds) a (b ∷ bs) t =
+      let u = and-split (nearest F m c a) (leb d c && constantsTest F m d ds b bs) t in
+      let v = and-split (leb d c) (constantsTest F m d ds b bs) (u .1) in
+      let g = nested-near d ds b bs (v .1) in
+      let p = nested F z d ds in
+      let q = z * p / F in
+      let less : q ≤ c = le-trans (N.div-le-of-le-mul F (mul-le-mul hz (le-trans (g .small) (leb→le d c (v .0))))) (N.le-refl c) in
+      record {
+        small = N.sub-le c q;
+        close = near-as (step (power W bs) (suc ((b + total bs) / m)) (error F m ds b bs) c a (pos p) (exactNested W w b bs) (pos q)
+            (le-trans (exact-small W w hw b bs) (omega (arith, N.mul-le-mul-right (power W bs) (ceiling (b + total bs)))))
+            (constant c a (u .0)) (g .close) (near-wide (near-floor (z * p) F hF) (N.sub-le F 1)))
+            (ap (λ (y : ℤ). y *ℤ pos (100 * (m * (W * power W bs)))) (pos-sub less)) refl (N.le-refl _);
+      }

@@ -1,0 +1,82 @@
+-- How large our sine and cosine are.
+-- Assumes nothing.
+use mathlib.Core.List.{List, [], _∷_}
+use Prim.Native.Nat.{ℕ, _+_, _*_, _-_, _/_, _%_, _^_, _≤_, _<_}
+use native.Mathlib.Nat as N
+use native.Mathlib.Omega.{arith}
+use lib.Dec.{leb, leb→le, nleb→lt, lit≤}
+use lib.IntN.{natAbs}
+use Rattle.algebra.proofs.Tests.{by-test, cond-case}
+use Rattle.algebra.proofs.Order.{abs-neg}
+use Rattle.sine.specs.Exact.{halfTurn, wholeTurn}
+use Rattle.sine.specs.Ours.{firstConstant, otherConstants, nested, sineQuarter, quarterTurn, ourSine, ourCosine}
+
+nested-small : (F z c : ℕ) (ds : List ℕ) → nested F z c ds ≤ c
+unfolding nested
+nested-small F z c [] = N.le-refl c
+nested-small F z c (d ∷ ds) = N.sub-le c (z * nested F z d ds / F)
+
+-- the most that our sine and cosine are, in units of 2^-31: up to nine tenths of a quarter the first constant shows it, and from there on the second
+abbrev pub sineMost : ℕ
+sineMost = 3040000000
+
+second-low : (z p : ℕ) → z ≤ 2 ^ 31 → p ≤ 171138612 → 1216058725 ≤ 1387197337 - z * p / 2 ^ 31
+second-low z p h k = omega (arith, N.mul-le-mul h k)
+
+first-high : (z p : ℕ) → 1739461750 ≤ z → 1216058725 ≤ p → firstConstant - z * p / 2 ^ 31 ≤ 2400000000
+first-high z p h k = omega (arith, N.mul-le-mul h k)
+
+sineQuarter-most : (q : ℕ) → q ≤ 2 ^ 30 → sineQuarter q ≤ sineMost
+unfolding sineQuarter nested
+sineQuarter-most q h = by-test (leb q 966367641) (λ s. low (leb→le q 966367641 s)) (λ s. high (nleb→lt q 966367641 s))
+  where
+    z : ℕ
+    z = q * q / 2 ^ 29
+
+    low : q ≤ 966367641 → q * nested (2 ^ 31) z firstConstant otherConstants / 2 ^ 30 ≤ sineMost
+    low k = bound (N.mul-le-mul k (nested-small (2 ^ 31) z firstConstant otherConstants))
+      where
+        bound : {n : ℕ} → n ≤ 966367641 * firstConstant → n / 2 ^ 30 ≤ sineMost
+        bound k = omega arith
+
+    high : 966367641 < q → q * nested (2 ^ 31) z firstConstant otherConstants / 2 ^ 30 ≤ sineMost
+    high k = bound (N.mul-le-mul h (first-high z _ (large (N.mul-le-mul k k)) (second-low z _ (small (N.mul-le-mul h h)) (nested-small (2 ^ 31) z 171138612 (10053990 ∷ 344545 ∷ 7728 ∷ 122 ∷ 1 ∷ [])))))
+      where
+        bound : {n : ℕ} → n ≤ 2 ^ 30 * 2400000000 → n / 2 ^ 30 ≤ sineMost
+        bound k = omega arith
+
+        large : {n : ℕ} → 966367642 * 966367642 ≤ n → 1739461750 ≤ n / 2 ^ 29
+        large k = omega arith
+
+        small : {n : ℕ} → n ≤ 2 ^ 30 * 2 ^ 30 → n / 2 ^ 29 ≤ 2 ^ 31
+        small k = omega arith
+
+pub sine-most : (b : ℕ) → natAbs (ourSine b) ≤ sineMost
+unfolding ourSine wholeTurn quarterTurn
+sine-most b =
+    cond-case (leb (2 * b) (2 ^ 41)) (λ z. natAbs z ≤ sineMost) (λ s. half b) (λ s. N.le-trans (N.le-of-eq (abs-neg (halfTurn quarterTurn (2 ^ 41) (b - 2 ^ 41 / 2)))) (half (b - 2 ^ 41 / 2)))
+  where
+    small : (r : ℕ) → r ≤ 2 ^ 39 → sineQuarter (r / 2 ^ 9) ≤ sineMost
+    small r h = sineQuarter-most (r / 2 ^ 9) (omega arith)
+
+    half : (a : ℕ) → natAbs (halfTurn quarterTurn (2 ^ 41) a) ≤ sineMost
+    half a =
+        cond-case (leb (4 * a) (2 ^ 41)) (λ z. natAbs z ≤ sineMost)
+        (λ s. small a (low (leb→le (4 * a) (2 ^ 41) s))) (λ s. small (2 ^ 41 / 2 - a) (high (nleb→lt (4 * a) (2 ^ 41) s)))
+      where
+        low : 4 * a ≤ 2 ^ 41 → a ≤ 2 ^ 39
+        low t = omega arith
+
+        high : 2 ^ 41 < 4 * a → 2 ^ 41 / 2 - a ≤ 2 ^ 39
+        high t = omega arith
+
+pub cosine-most : (b : ℕ) → natAbs (ourCosine b) ≤ sineMost
+unfolding ourCosine
+cosine-most b = sine-most ((b + 2 ^ 39) % 2 ^ 41)
+
+-- 33 bits with the sign
+pub sine-below : (b : ℕ) → natAbs (ourSine b) < 2 ^ 32
+sine-below b = N.lt-of-le-of-lt (sine-most b) (lit≤ tt)
+
+pub cosine-below : (b : ℕ) → natAbs (ourCosine b) < 2 ^ 32
+cosine-below b = N.lt-of-le-of-lt (cosine-most b) (lit≤ tt)

@@ -1,0 +1,33 @@
+-- Our sine and cosine in whole numbers. An angle b is in units of 2^-41 turn, below 2^41; the answer is in units of 2^-31.
+-- Assumes nothing.
+use mathlib.Core.List.{List, [], _∷_}
+use Prim.Native.Nat.{ℕ, _+_, _*_, _-_, _/_, _%_, _^_}
+use lib.IntN.{ℤ, pos}
+use Rattle.sine.specs.Exact.{wholeTurn}
+
+-- (pi/2)^(2k+1) / (2k+1)! in units of 2^-31, to nearest, for k from 0 to 7: the first, and the others
+abbrev pub firstConstant : ℕ
+firstConstant = 3373259426
+
+abbrev pub otherConstants : List ℕ
+otherConstants = 1387197337 ∷ 171138612 ∷ 10053990 ∷ 344545 ∷ 7728 ∷ 122 ∷ 1 ∷ []
+
+-- c - z*(d - z*(..)) in units of 1 / F, each product rounded down
+unfoldable pub nested : ℕ → ℕ → ℕ → List ℕ → ℕ
+nested F z c [] = c
+nested F z c (d ∷ ds) = c - z * nested F z d ds / F
+
+-- the sine of q of 2^30 parts of a quarter turn; q*q / 2^29 is the square of q / 2^30 in units of 2^-31
+unfoldable pub sineQuarter : ℕ → ℕ
+sineQuarter q = q * nested (2 ^ 31) (q * q / 2 ^ 29) firstConstant otherConstants / 2 ^ 30
+
+-- the sine of r of 2^41 parts of a turn, up to a quarter, cut to 2^30 parts of a quarter
+unfoldable pub quarterTurn : ℕ → ℤ
+quarterTurn r = pos (sineQuarter (r / 2 ^ 9))
+
+-- by the cases of the exact sine
+unfoldable pub ourSine : ℕ → ℤ
+ourSine b = wholeTurn quarterTurn (2 ^ 41) b
+
+unfoldable pub ourCosine : ℕ → ℤ
+ourCosine b = ourSine ((b + 2 ^ 39) % 2 ^ 41)

@@ -1,0 +1,106 @@
+// The sine and the cosine in 64-bit whole numbers. An angle is in units of 2^-41 turn, and whole turns are removed; an answer is in units of 2^-31.
+// Their distance from the exact sine and cosine is proved in proofs/Distance.antt.
+ghost use mathlib.Core.Path.{_≡_};
+ghost use Prim.Native.Nat.{_+_, _-_, _*_, _/_, _%_, _^_, _≤_, _<_};
+ghost use lib.IntN.{pos, negℤ};
+ghost use Rattle.sine.specs.Exact.{halfTurn};
+ghost use Rattle.sine.specs.Ours.{sineQuarter, quarterTurn, ourSine, ourCosine};
+
+// The square of q / 2^30, in units of 2^-31.
+fn square(q: u64) -> u64
+    requires { ⌜ q ≤ 2 ^ 30 ⌝ }
+    ensures { λ r. ⌜ (r ≡ q * q / 2 ^ 29) × (r ≤ 2 ^ 31) ⌝ }
+{
+    q * q / 0x2000_0000
+}
+
+// c - z*p, in units of 2^-31.
+fn step(c: u64, z: u64, p: u64) -> u64
+    requires { ⌜ (z ≤ 2 ^ 31) × (p ≤ c) × (c < 2 ^ 32) ⌝ }
+    ensures { λ r. ⌜ (r ≡ c - z * p / 2 ^ 31) × (r ≤ c) ⌝ }
+{
+    c - z * p / 0x8000_0000
+}
+
+// q / 2^30 times p.
+fn scaled(q: u64, p: u64) -> u64
+    requires { ⌜ (q ≤ 2 ^ 30) × (p < 2 ^ 32) ⌝ }
+    ensures { λ r. ⌜ (r ≡ q * p / 2 ^ 30) × (r ≤ p) ⌝ }
+{
+    q * p / 0x4000_0000
+}
+
+// The sine of q of 2^30 parts of a quarter turn.
+fn sine_quarter(q: u64) -> u64
+    requires { ⌜ q ≤ 2 ^ 30 ⌝ }
+    ensures { λ r. ⌜ (r ≡ sineQuarter q) × (r < 2 ^ 32) ⌝ }
+{
+    let z = square(q);
+    let p6 = step(122, z, 1);
+    let p5 = step(7728, z, p6);
+    let p4 = step(344545, z, p5);
+    let p3 = step(10053990, z, p4);
+    let p2 = step(171138612, z, p3);
+    let p1 = step(1387197337, z, p2);
+    let p0 = step(3373259426, z, p1);
+    scaled(q, p0)
+}
+
+// An angle up to a half turn, reflected in the quarter turn. The functions that choose are small, so that they compile to no branch.
+fn reflected(a: u64) -> u64
+    requires { ⌜ a ≤ 2 ^ 40 ⌝ }
+    ensures { λ r. ⌜ (quarterTurn r ≡ halfTurn quarterTurn (2 ^ 41) a) × (r ≤ 2 ^ 39) ⌝ }
+{
+    if a <= 0x80_0000_0000 {
+        a
+    } else {
+        0x100_0000_0000 - a
+    }
+}
+
+// The sine up to a half turn.
+fn sine_half(a: u64) -> u64
+    requires { ⌜ a ≤ 2 ^ 40 ⌝ }
+    ensures { λ r. ⌜ (pos r ≡ halfTurn quarterTurn (2 ^ 41) a) × (r < 2 ^ 32) ⌝ }
+{
+    sine_quarter(reflected(a) / 512)
+}
+
+// An angle less a half turn, if it is above one.
+fn lowered(a: u64) -> u64
+    requires { ⌜ a < 2 ^ 41 ⌝ }
+    ensures { λ r. ⌜ (a ≤ 2 ^ 40 → r ≡ a) × (2 ^ 40 < a → r ≡ a - 2 ^ 40) × (r ≤ 2 ^ 40) ⌝ }
+{
+    if a <= 0x100_0000_0000 {
+        a
+    } else {
+        a - 0x100_0000_0000
+    }
+}
+
+// The number v, or minus v for an angle above a half turn.
+fn signed(a: u64, v: u64) -> i64
+    requires { ⌜ v < 2 ^ 32 ⌝ }
+    ensures { λ r. ⌜ (a ≤ 2 ^ 40 → r ≡ pos v) × (2 ^ 40 < a → r ≡ negℤ (pos v)) ⌝ }
+{
+    if a <= 0x100_0000_0000 {
+        v as i64
+    } else {
+        0 - (v as i64)
+    }
+}
+
+// The sine of b.
+pub fn sine(b: u64) -> i64
+    ensures { λ r. ⌜ r ≡ ourSine (b % 2 ^ 41) ⌝ }
+{
+    let a = b % 0x200_0000_0000;
+    signed(a, sine_half(lowered(a)))
+}
+
+// The cosine of b: the sine of a quarter turn more.
+pub fn cosine(b: u64) -> i64
+    ensures { λ r. ⌜ r ≡ ourCosine (b % 2 ^ 41) ⌝ }
+{
+    sine(b % 0x200_0000_0000 + 0x80_0000_0000)
+}
