@@ -7,3 +7,4 @@ pub mod Signs
 pub mod Index
 pub mod Inverse
 pub mod Times
+pub mod Refusals

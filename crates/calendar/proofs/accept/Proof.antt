@@ -8,9 +8,6 @@ use mathlib.Core.Path.{_≡_, _∙_, ap, sym}
 use borrow.Author.Needs.{needs}
 use Rattle.calendar.proofs.accept.Statement.{statement}
 use Rattle.calendar.proofs.accept.Tie as tie
-use Rattle.calendar.proofs.accept.Reads as reads
-use Rattle.calendar.proofs.accept.Lts as lts
-use Rattle.calendar.proofs.day_index.Reads as day-index-reads
 
 abbrev says : (c : tie.After-day-index) → c .day-index .result ≡ dayIndex (c .before .args .day)
 says c = c .day-index .ensures ∙ ap dayIndex (toZ-ofZ (c .before .fits .day))

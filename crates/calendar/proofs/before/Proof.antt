@@ -13,9 +13,6 @@ use Rattle.calendar.proofs.Months.{before-table, month-inside, befores,
 use borrow.Author.Needs.{needs}
 use Rattle.calendar.proofs.before.Statement.{statement}
 use Rattle.calendar.proofs.before.Tie as tie
-use Rattle.calendar.proofs.before.Reads as reads
-use Rattle.calendar.proofs.before.Lts as lts
-use Rattle.calendar.proofs.leap.Reads as leap-reads
 
 sub-i : tie.Need-sub-i
 sub-i c = search needs

@@ -5,12 +5,6 @@ use native.Mathlib.Omega.{arith}
 use borrow.Author.Needs.{needs}
 use Rattle.calendar.proofs.date_after.Statement.{statement}
 use Rattle.calendar.proofs.date_after.Tie as tie
-use Rattle.calendar.proofs.date_after.Reads as reads
-use Rattle.calendar.proofs.date_after.Lts as lts
-use Rattle.calendar.proofs.before.Reads as before-reads
-use Rattle.calendar.proofs.year_day.Reads as year-day-reads
-use Rattle.calendar.proofs.leap.Reads as leap-reads
-use Rattle.calendar.proofs.month.Reads as month-reads
 
 year-day-requires : tie.Need-year-day-requires
 year-day-requires c κs = search needs

@@ -9,10 +9,6 @@ use mathlib.Core.Path.{_≡_, _∙_, ap, sym}
 use borrow.Author.Needs.{needs}
 use Rattle.calendar.proofs.date_of.Statement.{statement}
 use Rattle.calendar.proofs.date_of.Tie as tie
-use Rattle.calendar.proofs.date_of.Reads as reads
-use Rattle.calendar.proofs.date_of.Lts as lts
-use Rattle.calendar.proofs.date_after.Reads as date-after-reads
-use Rattle.calendar.proofs.day_index.Reads as day-index-reads
 
 day-index-requires : tie.Need-day-index-requires
 day-index-requires c κs = search needs

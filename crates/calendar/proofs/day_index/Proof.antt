@@ -13,8 +13,6 @@ use mir.Syntax.{w64}
 use mir.Facts.{toZ-ofZ}
 use Rattle.calendar.proofs.day_index.Statement.{statement}
 use Rattle.calendar.proofs.day_index.Tie as tie
-use Rattle.calendar.proofs.day_index.Reads as reads
-use Rattle.calendar.proofs.day_index.Lts as lts
 
 returns : tie.Need-returns
 unfolding dayIndex outside

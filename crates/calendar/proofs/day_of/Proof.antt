@@ -10,12 +10,6 @@ use borrow.Author.Tests.{lt-ltb, le-ltb}
 use borrow.Author.Needs.{needs}
 use Rattle.calendar.proofs.day_of.Statement.{statement}
 use Rattle.calendar.proofs.day_of.Tie as tie
-use Rattle.calendar.proofs.day_of.Reads as reads
-use Rattle.calendar.proofs.day_of.Lts as lts
-use Rattle.calendar.proofs.before.Reads as before-reads
-use Rattle.calendar.proofs.month_length.Reads as month-length-reads
-use Rattle.calendar.proofs.number.Reads as number-reads
-use Rattle.calendar.proofs.years.Reads as years-reads
 
 returns : tie.Need-returns
 unfolding dayOf

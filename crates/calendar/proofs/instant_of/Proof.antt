@@ -6,10 +6,6 @@ use Rattle.calendar.specs.Times.{timeOf, instantOf}
 use borrow.Author.Needs.{needs}
 use Rattle.calendar.proofs.instant_of.Statement.{statement}
 use Rattle.calendar.proofs.instant_of.Tie as tie
-use Rattle.calendar.proofs.instant_of.Reads as reads
-use Rattle.calendar.proofs.instant_of.Lts as lts
-use Rattle.calendar.proofs.day_of.Reads as day-of-reads
-use Rattle.calendar.proofs.time_of.Reads as time-of-reads
 
 day-of-requires : tie.Need-day-of-requires
 day-of-requires c κs = search needs

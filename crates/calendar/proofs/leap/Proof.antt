@@ -5,8 +5,6 @@ use Rattle.calendar.specs.Dates.{leapYear}
 use Rattle.calendar.specs.Inner.{leapDay}
 use Rattle.calendar.proofs.leap.Statement.{statement}
 use Rattle.calendar.proofs.leap.Tie as tie
-use Rattle.calendar.proofs.leap.Reads as reads
-use Rattle.calendar.proofs.leap.Lts as lts
 
 returns : tie.Need-returns
 unfolding leapYear leapDay

@@ -14,9 +14,6 @@ use Rattle.calendar.proofs.Months.{length-table, commons, leap-small}
 use borrow.Author.Needs.{needs}
 use Rattle.calendar.proofs.month_length.Statement.{statement}
 use Rattle.calendar.proofs.month_length.Tie as tie
-use Rattle.calendar.proofs.month_length.Reads as reads
-use Rattle.calendar.proofs.month_length.Lts as lts
-use Rattle.calendar.proofs.leap.Reads as leap-reads
 
 sub-i : tie.Need-sub-i
 sub-i c = search needs

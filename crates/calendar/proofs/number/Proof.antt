@@ -7,8 +7,6 @@ use Rattle.calendar.specs.Dates.{numberOf}
 use borrow.Author.Needs.{needs}
 use Rattle.calendar.proofs.number.Statement.{statement}
 use Rattle.calendar.proofs.number.Tie as tie
-use Rattle.calendar.proofs.number.Reads as reads
-use Rattle.calendar.proofs.number.Lts as lts
 
 cast-result : tie.Need-cast-result
 cast-result c = search needs

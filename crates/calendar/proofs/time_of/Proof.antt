@@ -5,8 +5,6 @@ use Rattle.calendar.specs.Times.{timeOf}
 use borrow.Author.Needs.{needs}
 use Rattle.calendar.proofs.time_of.Statement.{statement}
 use Rattle.calendar.proofs.time_of.Tie as tie
-use Rattle.calendar.proofs.time_of.Reads as reads
-use Rattle.calendar.proofs.time_of.Lts as lts
 
 returns : tie.Need-returns
 unfolding timeOf

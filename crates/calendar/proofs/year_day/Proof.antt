@@ -6,9 +6,6 @@ use Prim.Native.Nat.{_+_, _-_, _*_, _/_, _%_, _<_}
 use borrow.Author.Needs.{needs}
 use Rattle.calendar.proofs.year_day.Statement.{statement}
 use Rattle.calendar.proofs.year_day.Tie as tie
-use Rattle.calendar.proofs.year_day.Reads as reads
-use Rattle.calendar.proofs.year_day.Lts as lts
-use Rattle.calendar.proofs.capped.Reads as capped-reads
 
 add-t : tie.Need-add-t
 add-t c = search needs

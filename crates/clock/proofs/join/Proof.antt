@@ -13,9 +13,6 @@ use Rattle.clock.proofs.Mark.{mark-index}
 use borrow.Author.Needs.{needs}
 use Rattle.clock.proofs.join.Statement.{statement}
 use Rattle.clock.proofs.join.Tie as tie
-use Rattle.clock.proofs.join.Reads as reads
-use Rattle.clock.proofs.join.Lts as lts
-use Rattle.calendar.proofs.accept.Reads as accept-reads
 
 says : (c : tie.After-accept) → c .accept .result ≡ acceptance (c .before .args .day) (c .before .args .time % markUnit)
 says c = c .accept .ensures ∙ ap (λ (d : ℤ). acceptance d (c .before .args .time % markUnit)) (toZ-ofZ (c .before .fits .day))

@@ -12,9 +12,6 @@ use Rattle.clock.proofs.Mark.{mark-index}
 use borrow.Author.Needs.{needs}
 use Rattle.clock.proofs.split.Statement.{statement}
 use Rattle.clock.proofs.split.Tie as tie
-use Rattle.clock.proofs.split.Reads as reads
-use Rattle.clock.proofs.split.Lts as lts
-use Rattle.calendar.proofs.accept.Reads as accept-reads
 
 says : (c : tie.After-accept) → c .accept .result ≡ acceptance (c .before .args .day) (c .before .args .micros)
 says c = c .accept .ensures ∙ ap (λ (d : ℤ). acceptance d (c .before .args .micros)) (toZ-ofZ (c .before .fits .day))
