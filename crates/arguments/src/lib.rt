@@ -60,6 +60,7 @@ fn argument(x: u64, s: u64, up: Half, down: Half) -> u64
     (u + (2199023255552 - d % 2199023255552)) % 2199023255552
 }
 
+// The halves of l, l', F, D and Omega.
 const UP_ONE: Half = Half {
     a0: 0,
     g: 17038933253433341313,
