@@ -25,9 +25,9 @@ void begin(const char *test, int argc, char **argv)
     }
 }
 
-int end(void)
+int end(const char *note)
 {
-    printf("%s: %" PRIu64 " calls compared\n", name, calls);
+    printf("%s: %" PRIu64 " calls compared%s%s\n", name, calls, note ? ", " : "", note ? note : "");
     return 0;
 }
 

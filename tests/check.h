@@ -11,8 +11,8 @@
 
 /* Reads the arguments (`mistake N`, see model.h) and names the test. */
 void begin(const char *test, int argc, char **argv);
-/* Prints the one line of a test that passed. */
-int end(void);
+/* Prints the one line of a test that passed, with a note at its end or NULL. */
+int end(const char *note);
 
 /* Calls of the library whose answers were compared so far. */
 extern uint64_t calls;

@@ -50,7 +50,11 @@ uint32_t model_instant(const uint64_t field[7], struct instant *at);
 uint32_t model_split(struct instant at, struct instant *words);
 uint32_t model_join(struct instant words, struct instant *at);
 
-/* Tidal frequency and phase (model_tide.c). */
+/*
+ * Tidal frequency and phase, and the polynomials of l, l', F, D and Omega in degrees, coefficients of
+ * 1, t, t^2, t^3, t^4 (model_tide.c).
+ */
+extern const double model_delaunay[5][5];
 uint32_t model_tide(struct instant at, const int64_t k[6], struct tide *tide);
 
 /* The three corrections of an accepted instant, in the units of the answers (model_zonal.c). */

@@ -6,8 +6,7 @@
 
 #include <math.h>
 
-/* l, l', F, D and Omega in degrees: coefficients of 1, t, t^2, t^3, t^4. */
-static const double delaunay[5][5] = {
+const double model_delaunay[5][5] = {
     {134.9634025100, 477198.8675605000, 0.0088553333, 0.0000143431, -0.0000000680},
     {357.5291091806, 35999.0502911389, -0.0001536667, 0.0000000378, -0.0000000032},
     {93.2720906200, 483202.0174577222, -0.0035420000, -0.0000002881, 0.0000000012},
@@ -66,7 +65,7 @@ uint32_t model_tide(struct instant at, const int64_t k[6], struct tide *tide)
     f = (double)at.micros / 86400000000.0;
     t = (((double)(at.day - 51544) - MISTAKE(14, 0.5, 0.0)) + f) / 36525.0;
     for (int i = 0; i < 5; i++) {
-        const double *c = delaunay[i];
+        const double *c = model_delaunay[i];
         double first = i == 4 ? MISTAKE(15, c[0], 125.0445550101) : c[0];
 
         angle[i] = first + t * (c[1] + t * (c[2] + t * (c[3] + t * c[4])));

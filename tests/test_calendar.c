@@ -92,5 +92,5 @@ int main(int argc, char **argv)
     every_day();
     grid();
     random_inputs();
-    return end();
+    return end(NULL);
 }

@@ -100,5 +100,5 @@ int main(int argc, char **argv)
     every_day();
     every_mark();
     random_inputs();
-    return end();
+    return end(NULL);
 }

@@ -96,5 +96,5 @@ int main(int argc, char **argv)
     orders();
     through_a_day();
     random_inputs();
-    return end();
+    return end(NULL);
 }

@@ -105,5 +105,5 @@ int main(int argc, char **argv)
     close_calls();
     constituents();
     random_inputs();
-    return end();
+    return end(NULL);
 }
