@@ -1,0 +1,223 @@
+/*
+ * Enfysgar: calendar, clock words, tidal phases, zonal-tide corrections,
+ * free-core-nutation offsets and records for a timing unit.
+ *
+ * Link libenfysgar.a and include this header:
+ *
+ *     cc daemon.c $(pkg-config --cflags --libs enfysgar)
+ *
+ * Every call answers every value of every parameter. Nothing has to be checked
+ * first; what cannot be answered is refused by a number (the table below).
+ * No call keeps anything between two calls, allocates memory, or reads or
+ * writes anything but its arguments, so any number of threads may call at once.
+ *
+ * Words used below
+ *
+ *   day      a day number: Modified Julian Date, whole. 2000-01-01 is 51544.
+ *   micros   microseconds of that day, from 0 to 86399999999.
+ *   instant  a day and its micros, in Terrestrial Time (TT). An instant is
+ *            accepted when neither 8 nor 9 applies to it.
+ *
+ * A service that has several numbers to give is several calls with the same
+ * parameters: one for each number, and one that ends in `_refusal`. The calls
+ * of one group always agree: either the refusal is 0 and the numbers are the
+ * answer, or the refusal is not 0 and each number is 0 (+0.0 for a double).
+ *
+ * This software is based on routines of the IERS Conventions and is neither
+ * distributed nor endorsed by the IERS Conventions Center. See NOTICE.
+ */
+#ifndef ENFYSGAR_H
+#define ENFYSGAR_H
+
+#include <stddef.h>
+#include <stdint.h>
+
+#ifdef __cplusplus
+extern "C" {
+#endif
+
+/*
+ * Refusal numbers. 0 is success. Where several apply, the first in the order
+ * that the call lists is given.
+ */
+enum {
+    ENFYS_OK = 0,
+    ENFYS_YEAR = 1,           /* year outside 1900..2100 */
+    ENFYS_MONTH = 2,          /* month outside 1..12 */
+    ENFYS_DAY_OF_MONTH = 3,   /* day of month outside that month */
+    ENFYS_HOUR = 4,           /* hour above 23 */
+    ENFYS_MINUTE = 5,         /* minute above 59 */
+    ENFYS_SECOND = 6,         /* second above 59 */
+    ENFYS_MICROSECOND = 7,    /* microsecond of the second above 999999 */
+    ENFYS_DAY = 8,            /* day outside 15020..88433 (1900-01-01..2100-12-31),
+                                 or the last instant of a run after day 88433 */
+    ENFYS_MICROS = 9,         /* micros 86400000000 or more */
+    ENFYS_WORDS_DISAGREE = 10,/* the two clock words are of different days */
+    ENFYS_MULTIPLIER = 11,    /* a Doodson multiplier outside -12..12 */
+    ENFYS_BUFFER_SHORT = 12,  /* buffer shorter than the answer, or than a record */
+    ENFYS_RECORD_LENGTH = 13, /* length field of a record not 30 */
+    ENFYS_RECORD_VERSION = 14,/* version byte of a record not 1 */
+    ENFYS_RECORD_ZERO = 15,   /* byte 3 of a record not 0 */
+    ENFYS_RECORD_SUM = 16,    /* the 16-bit words of a record do not add up to 0 */
+    ENFYS_RUN_COUNT = 17,     /* number of records of a run outside 1..96 */
+    ENFYS_RUN_STEP = 18       /* step of a run outside 1..86400000000 microseconds */
+};
+
+/* First and last accepted day, microseconds in a day, and the sizes of records. */
+#define ENFYS_FIRST_DAY INT64_C(15020)
+#define ENFYS_LAST_DAY INT64_C(88433)
+#define ENFYS_DAY_MICROS UINT64_C(86400000000)
+#define ENFYS_RECORD_BYTES 30
+#define ENFYS_RUN_RECORDS 96
+
+/*
+ * (a) Calendar. Gregorian dates from 1900-01-01 to 2100-12-31.
+ * Months count from 1 (January), days of a month from 1.
+ */
+
+/* The day number of a date. Refused: 1, 2, 3, in this order. */
+int64_t enfys_date_to_day(uint64_t year, uint64_t month, uint64_t day_of_month);
+uint32_t enfys_date_refusal(uint64_t year, uint64_t month, uint64_t day_of_month);
+
+/* The date of a day number. Refused: 8. */
+uint64_t enfys_day_to_year(int64_t day);
+uint64_t enfys_day_to_month(int64_t day);
+uint64_t enfys_day_to_day_of_month(int64_t day);
+uint32_t enfys_day_refusal(int64_t day);
+
+/*
+ * (b) Date and time of day (TT) to an instant.
+ * `microsecond` is the part of the second, 0 to 999999; the answer's micros
+ * count from 0 h. Refused: 1, 2, 3, 4, 5, 6, 7, in this order.
+ */
+int64_t enfys_instant_day(uint64_t year, uint64_t month, uint64_t day_of_month,
+                          uint64_t hour, uint64_t minute, uint64_t second,
+                          uint64_t microsecond);
+uint64_t enfys_instant_micros(uint64_t year, uint64_t month, uint64_t day_of_month,
+                              uint64_t hour, uint64_t minute, uint64_t second,
+                              uint64_t microsecond);
+uint32_t enfys_instant_refusal(uint64_t year, uint64_t month, uint64_t day_of_month,
+                               uint64_t hour, uint64_t minute, uint64_t second,
+                               uint64_t microsecond);
+
+/*
+ * (c) Clock words: an instant in two words that may be read one after the other.
+ * The day word is the day number. The time word is the micros plus a mark,
+ * (day mod 8) * 137438953472 (2 to the 37th). If the two words were taken on
+ * different days less than eight days apart, joining them is refused.
+ */
+
+/* An instant as two words. Refused: 8, 9, in this order. */
+int64_t enfys_split_day_word(int64_t day, uint64_t micros);
+uint64_t enfys_split_time_word(int64_t day, uint64_t micros);
+uint32_t enfys_split_refusal(int64_t day, uint64_t micros);
+
+/*
+ * Two words as an instant: micros is time_word mod 137438953472, the mark is the
+ * quotient. Refused: 8 (the day word), 9 (the micros), 10 (the mark is not the day
+ * word mod 8; a mark above 7 never is), in this order.
+ */
+int64_t enfys_join_day(int64_t day_word, uint64_t time_word);
+uint64_t enfys_join_micros(int64_t day_word, uint64_t time_word);
+uint32_t enfys_join_refusal(int64_t day_word, uint64_t time_word);
+
+/*
+ * (d) Frequency, in cycles per day, and phase, in degrees, of the tidal
+ * constituent with the six Doodson multipliers k1..k6 (M2 is 2, 0, 0, 0, 0, 0).
+ * The phase is at least 0 and below 360, never minus zero. Both are the same
+ * bits on every machine: IEEE binary64, each operation rounded once, in a fixed
+ * order. Six zero multipliers give +0 and +0.
+ * Refused: 8, 9, 11, in this order.
+ */
+double enfys_tide_frequency(int64_t day, uint64_t micros, int64_t k1, int64_t k2,
+                            int64_t k3, int64_t k4, int64_t k5, int64_t k6);
+double enfys_tide_phase(int64_t day, uint64_t micros, int64_t k1, int64_t k2,
+                        int64_t k3, int64_t k4, int64_t k5, int64_t k6);
+uint32_t enfys_tide_refusal(int64_t day, uint64_t micros, int64_t k1, int64_t k2,
+                            int64_t k3, int64_t k4, int64_t k5, int64_t k6);
+
+/*
+ * (e) Zonal-tide corrections at an instant, whole numbers:
+ *
+ *   ut1   effect on UT1, in nanoseconds, within 20 of the exact sum
+ *   lod   effect on the length of day, in picoseconds, within 200
+ *   rate  effect on the rotation rate, in 10^-20 radian per second, within 20
+ *
+ * Refused: 8, 9, in this order.
+ *
+ * Each of these calls computes the whole sum of sixty-two terms again. A caller
+ * who wants all three numbers writes a run of one record (enfys_run_write with
+ * count 1 and any step) and reads them from it: one sum in place of three.
+ */
+int32_t enfys_zonal_ut1(int64_t day, uint64_t micros);
+int32_t enfys_zonal_lod(int64_t day, uint64_t micros);
+int32_t enfys_zonal_rate(int64_t day, uint64_t micros);
+uint32_t enfys_zonal_refusal(int64_t day, uint64_t micros);
+
+/*
+ * (f) Free-core-nutation offsets of the celestial pole at an instant, in whole
+ * nanoarcseconds (0.001 microarcsecond), each within 2 of the exact offset, and
+ * the uncertainty of either axis, exact and rounded up to a whole nanoarcsecond.
+ * Refused: 8, 9, in this order.
+ */
+int64_t enfys_nutation_x(int64_t day, uint64_t micros);
+int64_t enfys_nutation_y(int64_t day, uint64_t micros);
+uint64_t enfys_nutation_uncertainty(int64_t day, uint64_t micros);
+uint32_t enfys_nutation_refusal(int64_t day, uint64_t micros);
+
+/*
+ * (g) Records. A record is 30 bytes, each number with its high byte first:
+ *
+ *    0-1   length, 30
+ *    2     version, 1
+ *    3     0
+ *    4-7   day word
+ *    8-15  time word
+ *   16-19  ut1    \
+ *   20-23  lod     } signed, two's complement, units as in (e)
+ *   24-27  rate   /
+ *   28-29  chosen so that the fifteen 16-bit words add up to 0 modulo 65536
+ *
+ * `buffer` and `bytes` point to `length` bytes of the caller's, which nothing
+ * else may write during the call. With length 0 the pointer is not used.
+ */
+
+/*
+ * Writes one record. Any three numbers can be written. Returns the refusal:
+ * 8, 9, 12 (length below 30), in this order. On success bytes 0 to 29 of the
+ * buffer are the record and no other byte has changed; on a refusal no byte has.
+ */
+uint32_t enfys_record_write(int64_t day, uint64_t micros, int32_t ut1, int32_t lod,
+                            int32_t rate, uint8_t *buffer, size_t length);
+
+/*
+ * Reads one record from the first 30 bytes; what follows is not looked at.
+ * Refused, in this order: 12 (length below 30), 14 (version), 13 (length field),
+ * 15 (byte 3), 16 (sum), 8, 9, 10 (the clock words, as in joining).
+ * A record that reads is, byte for byte, what enfys_record_write writes for the
+ * instant and the three numbers that it gives.
+ */
+int64_t enfys_record_day(const uint8_t *bytes, size_t length);
+uint64_t enfys_record_micros(const uint8_t *bytes, size_t length);
+int32_t enfys_record_ut1(const uint8_t *bytes, size_t length);
+int32_t enfys_record_lod(const uint8_t *bytes, size_t length);
+int32_t enfys_record_rate(const uint8_t *bytes, size_t length);
+uint32_t enfys_record_refusal(const uint8_t *bytes, size_t length);
+
+/*
+ * Writes a run: count records, at the instants start + k * step_micros for k from
+ * 0 to count - 1, each with the three numbers of service (e) for its instant.
+ * Record k fills bytes 30k to 30k + 29. Returns the refusal, in this order:
+ * 17 (count), 18 (step), 8 (the start's day), 9 (the start's micros), 8 (the last
+ * instant is after day 88433), 12 (length below 30 * count). On success no byte
+ * past 30 * count has changed; on a refusal no byte has. A step is refused by 18
+ * even where count is 1 and it would not be used.
+ */
+uint32_t enfys_run_write(int64_t day, uint64_t micros, uint64_t count,
+                         uint64_t step_micros, uint8_t *buffer, size_t length);
+
+#ifdef __cplusplus
+}
+#endif
+
+#endif

@@ -1,0 +1,193 @@
+/* See check.h. */
+#define _DEFAULT_SOURCE
+#include "check.h"
+#include "model.h"
+
+#include <stdarg.h>
+#include <stdio.h>
+#include <stdlib.h>
+#include <string.h>
+#include <sys/mman.h>
+#include <unistd.h>
+
+int model_mistake;
+uint64_t calls;
+static const char *name;
+
+void begin(const char *test, int argc, char **argv)
+{
+    name = test;
+    if (argc == 3 && strcmp(argv[1], "mistake") == 0)
+        model_mistake = atoi(argv[2]);
+    else if (argc != 1) {
+        fprintf(stderr, "usage: %s [mistake N]\n", argv[0]);
+        exit(2);
+    }
+}
+
+int end(const char *note)
+{
+    printf("%s: %" PRIu64 " calls compared%s%s\n", name, calls, note ? ", " : "", note ? note : "");
+    return 0;
+}
+
+void differs(const char *call, const char *got, const char *expected, const char *format, ...)
+{
+    va_list inputs;
+
+    fflush(stdout);
+    fprintf(stderr, "%s: FAILED after %" PRIu64 " calls\n  %s\n  gave     %s\n  expected %s\n  where    ",
+            name, calls, call, got, expected);
+    va_start(inputs, format);
+    vfprintf(stderr, format, inputs);
+    va_end(inputs);
+    fprintf(stderr, "\n");
+    exit(1);
+}
+
+/* Four texts in turn, so that two can stand in one message. */
+static char *room(void)
+{
+    static char text[4][64];
+    static unsigned turn;
+
+    return text[turn++ % 4];
+}
+
+const char *text_u64(uint64_t x)
+{
+    char *t = room();
+
+    snprintf(t, 64, "%" PRIu64, x);
+    return t;
+}
+
+const char *text_i64(int64_t x)
+{
+    char *t = room();
+
+    snprintf(t, 64, "%" PRId64, x);
+    return t;
+}
+
+const char *text_double(double x)
+{
+    char *t = room();
+
+    snprintf(t, 64, "%.17g (bits %016" PRIx64 ")", x, bits_of(x));
+    return t;
+}
+
+uint64_t bits_of(double x)
+{
+    uint64_t bits;
+
+    memcpy(&bits, &x, sizeof bits);
+    return bits;
+}
+
+/* Splitmix64, from the same seed in every run. */
+uint64_t any(void)
+{
+    static uint64_t state = 20260725;
+    uint64_t z = state += UINT64_C(0x9e3779b97f4a7c15);
+
+    z = (z ^ (z >> 30)) * UINT64_C(0xbf58476d1ce4e5b9);
+    z = (z ^ (z >> 27)) * UINT64_C(0x94d049bb133111eb);
+    return z ^ (z >> 31);
+}
+
+uint64_t below(uint64_t n)
+{
+    return any() % n;
+}
+
+int64_t between(int64_t low, int64_t high)
+{
+    return low + (int64_t)below((uint64_t)(high - low) + 1);
+}
+
+int one_in(unsigned n)
+{
+    return below(n) == 0;
+}
+
+uint64_t edge(void)
+{
+    static const uint64_t ends[] = {
+        0, 12, 23, 24, 28, 30, 31, 59, 60, 96, 999999, 1000000, 1900, 2000, 2100, 15020, 51544, 88433,
+        86400000000, 137438953472, 3155760000000000, INT32_MAX, UINT32_MAX, INT64_MAX, UINT64_MAX,
+    };
+    uint64_t near = below(5) - 2;
+
+    switch (below(5)) {
+    case 0:
+        return ends[below(sizeof ends / sizeof *ends)] + near;
+    case 1:
+        return (UINT64_C(1) << below(64)) + near;
+    case 2: /* right in its low half only */
+        return ends[below(sizeof ends / sizeof *ends)] + (any() << 32);
+    case 3:
+        return any() >> below(64);
+    default:
+        return 0 - (any() >> below(64));
+    }
+}
+
+int64_t some_day(void)
+{
+    switch (below(16)) {
+    case 0:
+        return 15020 + between(-3, 3);
+    case 1:
+        return 88433 + between(-3, 3);
+    case 2:
+        return (int64_t)edge();
+    case 3:
+        return 51544 + between(-3, 3);
+    default:
+        return between(15020, 88433);
+    }
+}
+
+uint64_t some_micros(void)
+{
+    switch (below(16)) {
+    case 0:
+        return below(3);
+    case 1:
+        return UINT64_C(86400000000) - 2 + below(4);
+    case 2:
+        return edge();
+    case 3:
+        return UINT64_C(43200000000) - 2 + below(4);
+    case 4:
+        return below(86400) * 1000000;
+    default:
+        return below(UINT64_C(86400000000));
+    }
+}
+
+static size_t pages(size_t size)
+{
+    size_t page = (size_t)sysconf(_SC_PAGESIZE);
+
+    return (size + page - 1) / page * page;
+}
+
+uint8_t *lent(size_t size)
+{
+    size_t whole = pages(size), guard = pages(1);
+    uint8_t *start = mmap(NULL, whole + guard, PROT_READ | PROT_WRITE, MAP_PRIVATE | MAP_ANONYMOUS, -1, 0);
+
+    if (start == MAP_FAILED || mprotect(start + whole, guard, PROT_NONE) != 0) {
+        perror("mmap");
+        exit(2);
+    }
+    return start + whole - size;
+}
+
+void lent_free(uint8_t *block, size_t size)
+{
+    munmap(block - (pages(size) - size), pages(size) + pages(1));
+}

@@ -1,0 +1,70 @@
+/*
+ * What the test programs share: counting and comparing calls, random numbers
+ * from a fixed seed, and values at the edges of types and ranges.
+ */
+#ifndef CHECK_H
+#define CHECK_H
+
+#include <inttypes.h>
+#include <stddef.h>
+#include <stdint.h>
+
+/* Reads the arguments (`mistake N`, see model.h) and names the test. */
+void begin(const char *test, int argc, char **argv);
+/* Prints the one line of a test that passed, with a note at its end or NULL. */
+int end(const char *note);
+
+/* Calls of the library whose answers were compared so far. */
+extern uint64_t calls;
+
+/* Ends the test with status 1; says which call gave what. */
+_Noreturn void differs(const char *call, const char *got, const char *expected, const char *format, ...)
+    __attribute__((format(printf, 4, 5)));
+const char *text_u64(uint64_t x);
+const char *text_i64(int64_t x);
+const char *text_double(double x);
+uint64_t bits_of(double x);
+
+/*
+ * SAME_..(call, expected, "inputs", ..): makes the call once and compares the answer. The inputs
+ * are printed only where the answer differs.
+ */
+#define SAME(type, equal, text, call, expected, ...)                        \
+    do {                                                                    \
+        type got_ = (call);                                                 \
+        type expected_ = (expected);                                        \
+        calls++;                                                            \
+        if (!(equal))                                                       \
+            differs(#call, text(got_), text(expected_), __VA_ARGS__);       \
+    } while (0)
+#define SAME_U(call, expected, ...) SAME(uint64_t, got_ == expected_, text_u64, call, expected, __VA_ARGS__)
+#define SAME_I(call, expected, ...) SAME(int64_t, got_ == expected_, text_i64, call, expected, __VA_ARGS__)
+/* Two doubles with the same bits: +0 and -0 differ. */
+#define SAME_BITS(call, expected, ...) \
+    SAME(double, bits_of(got_) == bits_of(expected_), text_double, call, expected, __VA_ARGS__)
+/* A whole number at most `distance` from a double. A distance that is NaN is not met. */
+#define WITHIN(distance, call, expected, ...)                                                  \
+    SAME(double, (got_ >= expected_ - (distance)) && (got_ <= expected_ + (distance)), text_double, \
+         (double)(call), expected, __VA_ARGS__)
+
+/* A random number: of 64 bits, from 0 to n - 1, from low to high. */
+uint64_t any(void);
+uint64_t below(uint64_t n);
+int64_t between(int64_t low, int64_t high);
+/* A value that code tends to get wrong: ends of types, powers of two, ends of our ranges, or any. */
+uint64_t edge(void);
+/* One time in n. */
+int one_in(unsigned n);
+
+/* A day and micros that are mostly accepted, with the ends of both ranges well represented. */
+int64_t some_day(void);
+uint64_t some_micros(void);
+
+/*
+ * A block of `size` bytes that ends where unmapped memory begins, so that reading or writing past
+ * it ends the program. Free it with lent_free. The bytes before it are not guarded.
+ */
+uint8_t *lent(size_t size);
+void lent_free(uint8_t *block, size_t size);
+
+#endif

@@ -1,0 +1,75 @@
+/*
+ * A second implementation of the rules in docs/RULES.md, in plain C, for the
+ * tests and benchmarks to compare the library with. It shares no code and no
+ * table with the library. It is not part of the proved product.
+ *
+ * Each model_.. function returns the refusal number and, through its pointers,
+ * the answer, or zeros where it refuses.
+ */
+#ifndef MODEL_H
+#define MODEL_H
+
+#include <stddef.h>
+#include <stdint.h>
+
+/*
+ * A test that cannot fail shows nothing. MISTAKE(n, right, wrong) is `right`,
+ * unless the test program was started with `mistake n`: then the model makes
+ * mistake n, and the test has to notice. tests/run tries each of them.
+ */
+#ifdef MODEL_WITHOUT_MISTAKES
+#define MISTAKE(n, right, wrong) (right)
+#else
+extern int model_mistake;
+#define MISTAKE(n, right, wrong) (model_mistake == (n) ? (wrong) : (right))
+#endif
+
+struct date {
+    uint64_t year, month, day;
+};
+
+struct instant {
+    int64_t day;
+    uint64_t micros;
+};
+
+struct record {
+    struct instant at;
+    int32_t number[3]; /* UT1, length of day, rate */
+};
+
+struct tide {
+    double frequency, phase;
+};
+
+/* Calendar, instants and clock words (model_time.c). */
+uint32_t model_day_of_date(struct date date, int64_t *day);
+uint32_t model_date_of_day(int64_t day, struct date *date);
+uint32_t model_accept(struct instant at);
+uint32_t model_instant(const uint64_t field[7], struct instant *at);
+uint32_t model_split(struct instant at, struct instant *words);
+uint32_t model_join(struct instant words, struct instant *at);
+
+/*
+ * Tidal frequency and phase, and the polynomials of l, l', F, D and Omega in degrees, coefficients of
+ * 1, t, t^2, t^3, t^4 (model_tide.c).
+ */
+extern const double model_delaunay[5][5];
+uint32_t model_tide(struct instant at, const int64_t k[6], struct tide *tide);
+
+/* The three corrections of an accepted instant, in the units of the answers (model_zonal.c). */
+void model_zonal(struct instant at, double number[3]);
+
+/* The two offsets of an accepted instant in nanoarcseconds, and the uncertainty (model_nutation.c). */
+void model_nutation(struct instant at, double offset[2]);
+uint64_t model_uncertainty(struct instant at);
+#define MODEL_ROWS 30
+int64_t model_row_day(int row);
+
+/* Records and runs (model_record.c). */
+uint32_t model_write(const struct record *record, uint8_t *buffer, size_t length);
+uint32_t model_read(const uint8_t *bytes, size_t length, struct record *record);
+uint32_t model_run_refusal(struct instant start, uint64_t count, uint64_t step, size_t length);
+struct instant model_run_instant(struct instant start, uint64_t k, uint64_t step);
+
+#endif

@@ -1,0 +1,89 @@
+/* Service (f): nutation offsets, at most 2 nanoarcseconds from the exact ones, and their uncertainty. */
+#include "../include/enfysgar.h"
+#include "check.h"
+#include "model.h"
+
+#include <math.h>
+#include <stdio.h>
+
+#define INSTANT "day %" PRId64 ", micros %" PRIu64, day, micros
+#define DAY_MICROS UINT64_C(86400000000)
+
+/* 2, and room for the model's own rounding: angles of some hundred radians, offsets to 400000. */
+#define DISTANCE 2.000001
+
+static double farthest;
+
+static void nutation(int64_t day, uint64_t micros)
+{
+    struct instant at = {day, micros};
+    uint32_t refusal = model_accept(at);
+    double want[2];
+    int64_t x, y;
+
+    SAME_U(enfys_nutation_refusal(day, micros), refusal, INSTANT);
+    SAME_U(enfys_nutation_uncertainty(day, micros), refusal ? 0 : model_uncertainty(at), INSTANT);
+    if (refusal) {
+        SAME_I(enfys_nutation_x(day, micros), 0, INSTANT);
+        SAME_I(enfys_nutation_y(day, micros), 0, INSTANT);
+        return;
+    }
+    model_nutation(at, want);
+    WITHIN(DISTANCE, x = enfys_nutation_x(day, micros), want[0], INSTANT);
+    WITHIN(DISTANCE, y = enfys_nutation_y(day, micros), want[1], INSTANT);
+    farthest = fmax(farthest, fmax(fabs((double)x - want[0]), fabs((double)y - want[1])));
+}
+
+/* Four uncertainties, and the case that FCNNUT gives for day 54790, which its table still meets. */
+static void reference(void)
+{
+    SAME_U(enfys_nutation_uncertainty(45700, 0), 39440, "day 45700, micros 0");
+    SAME_U(enfys_nutation_uncertainty(45699, 0), 39705, "day 45699, micros 0");
+    SAME_U(enfys_nutation_uncertainty(45883, 0), 30840, "day 45883, micros 0");
+    SAME_U(enfys_nutation_uncertainty(56294, 0), 3985, "day 56294, micros 0");
+    WITHIN(DISTANCE, enfys_nutation_x(54790, 0), -176801.2290066270680, "day 54790, micros 0");
+    WITHIN(DISTANCE, enfys_nutation_y(54790, 0), -93518.55308903756736, "day 54790, micros 0");
+    SAME_U(enfys_nutation_uncertainty(54790, 0), 3746, "day 54790, micros 0");
+}
+
+/* Row dates, the microseconds and the days around them, and the ends of the range. */
+static void around_rows(void)
+{
+    for (int i = 0; i < MODEL_ROWS; i++) {
+        int64_t day = model_row_day(i);
+
+        for (uint64_t m = 0; m < 5; m++) {
+            nutation(day - 1, DAY_MICROS - 1 - m);
+            nutation(day, m);
+        }
+        for (int64_t near = -3; near <= 3; near++)
+            for (int n = 0; n < 40; n++)
+                nutation(day + near, below(DAY_MICROS));
+    }
+    for (int64_t near = -2; near <= 2; near++)
+        for (uint64_t m = 0; m < 3; m++) {
+            nutation(15020 + near, m);
+            nutation(15020 + near, DAY_MICROS - 2 + m);
+            nutation(88433 + near, m);
+            nutation(88433 + near, DAY_MICROS - 2 + m);
+        }
+}
+
+int main(int argc, char **argv)
+{
+    char note[100];
+
+    begin("nutation", argc, argv);
+    reference();
+    around_rows();
+    for (int64_t day = 15020; day <= 88433; day++)
+        nutation(day, 0);
+    for (int i = 0; i < 100000; i++)
+        nutation(between(45600, 56400), below(DAY_MICROS));
+    for (int i = 0; i < 100000; i++)
+        nutation(some_day(), some_micros());
+    for (int i = 0; i < 200000; i++)
+        nutation((int64_t)edge(), edge());
+    snprintf(note, sizeof note, "farthest from double precision %.3f", farthest);
+    return end(note);
+}

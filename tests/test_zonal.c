@@ -1,0 +1,83 @@
+/* Service (e): zonal-tide corrections, at most 20, 200 and 20 from double precision. */
+#include "../include/enfysgar.h"
+#include "check.h"
+#include "model.h"
+
+#include <math.h>
+#include <stdio.h>
+
+#define INSTANT "day %" PRId64 ", micros %" PRIu64, day, micros
+
+static double farthest[3];
+
+static void note(int i, double got, double expected)
+{
+    if (fabs(got - expected) > farthest[i])
+        farthest[i] = fabs(got - expected);
+}
+
+static void zonal(int64_t day, uint64_t micros)
+{
+    uint32_t refusal = model_accept((struct instant){day, micros});
+    double want[3];
+
+    SAME_U(enfys_zonal_refusal(day, micros), refusal, INSTANT);
+    if (refusal) {
+        SAME_I(enfys_zonal_ut1(day, micros), 0, INSTANT);
+        SAME_I(enfys_zonal_lod(day, micros), 0, INSTANT);
+        SAME_I(enfys_zonal_rate(day, micros), 0, INSTANT);
+        return;
+    }
+    int32_t ut1, lod, rate;
+
+    model_zonal((struct instant){day, micros}, want);
+    WITHIN(20.0, ut1 = enfys_zonal_ut1(day, micros), want[0], INSTANT);
+    WITHIN(200.0, lod = enfys_zonal_lod(day, micros), want[1], INSTANT);
+    WITHIN(20.0, rate = enfys_zonal_rate(day, micros), want[2], INSTANT);
+    note(0, ut1, want[0]);
+    note(1, lod, want[1]);
+    note(2, rate, want[2]);
+}
+
+/* The case that RG_ZONT2 gives for day 54465: seconds, seconds and radians per second. */
+static void reference(void)
+{
+    WITHIN(21.0, enfys_zonal_ut1(54465, 0), 7.983287678576557467e-2 * 1e9, "day 54465, micros 0");
+    WITHIN(201.0, enfys_zonal_lod(54465, 0), 5.035303035410713729e-5 * 1e12, "day 54465, micros 0");
+    WITHIN(21.0, enfys_zonal_rate(54465, 0), -4.249711616463017e-14 * 1e20, "day 54465, micros 0");
+}
+
+/* Both ends of the range and the microseconds around midnights, noons and J2000. */
+static void edges(void)
+{
+    static const int64_t day[] = {15019, 15020, 15021, 51543, 51544, 51545, 88432, 88433, 88434};
+
+    for (size_t i = 0; i < sizeof day / sizeof *day; i++)
+        for (uint64_t m = 0; m < 4; m++) {
+            zonal(day[i], m);
+            zonal(day[i], UINT64_C(43199999998) + m);
+            zonal(day[i], UINT64_C(86399999998) + m);
+        }
+    for (int64_t d = 15020; d < 88433; d += 7) {
+        zonal(d, UINT64_C(86399999999));
+        zonal(d + 1, 0);
+    }
+}
+
+int main(int argc, char **argv)
+{
+    char note_text[100];
+
+    begin("zonal", argc, argv);
+    reference();
+    edges();
+    for (int i = 0; i < 100000; i++)
+        zonal(between(15020, 88433), below(UINT64_C(86400000000)));
+    for (int i = 0; i < 50000; i++)
+        zonal(some_day(), some_micros());
+    for (int i = 0; i < 200000; i++)
+        zonal((int64_t)edge(), edge());
+    snprintf(note_text, sizeof note_text, "farthest from double precision %.2f, %.1f and %.2f", farthest[0],
+             farthest[1], farthest[2]);
+    return end(note_text);
+}
