@@ -7,6 +7,7 @@ use lib.Dec.{leb}
 use lib.IntN.{ℤ, pos, _-ℤ_, _+ℤ_, natAbs}
 use lib.Signed.{ltZ}
 use borrow.Author.Tests.{leb-false, leb-true, lt-leb}
+use Rattle.calendar.proofs.Cases.{no-case}
 use Rattle.calendar.specs.declared.DayIndex.{DayIndex}
 use Rattle.calendar.specs.declared.DayIndex.the-variants.{At, Outside}
 use Rattle.calendar.specs.declared.Acceptance.the-variants.{Accepted, NotAccepted}
@@ -21,7 +22,7 @@ index-outside z e = by (outside z) e
   where
     by : (b : Bool) → cond b Outside (At (indexAt z)) ≡ Outside → b ≡ true
     by true e = refl
-    by false e = let w : _≡_ {A = ℕ} 0 1 = cc in let v : ⊥ = omega arith in absurd v
+    by false e = no-case (cc)
 
 -- a day number that has the index n
 pub record HasIndex (z : ℤ) (n : ℕ) : Type 0 where
@@ -33,7 +34,7 @@ pub record HasIndex (z : ℤ) (n : ℕ) : Type 0 where
 
 both-false : (a b : Bool) → a || b ≡ false → (a ≡ false) × (b ≡ false)
 both-false false b e = (refl, e)
-both-false true b e = (e, let w : _≡_ {A = ℕ} 0 1 = cc in let v : ⊥ = omega arith in absurd v)
+both-false true b e = (e, no-case (cc))
 
 range : (z : ℤ) → outside z ≡ false → Between z
 unfolding outside
@@ -57,7 +58,7 @@ unfolding dayIndex
 index-at z n e = by (outside z) refl e
   where
     by : (b : Bool) → outside z ≡ b → cond b Outside (At (indexAt z)) ≡ At n → HasIndex z n
-    by true p e = let w : _≡_ {A = ℕ} 0 1 = cc in let v : ⊥ = omega arith in absurd v
+    by true p e = no-case (cc)
     by false p e = let i : indexAt z ≡ n = cc in rw i at (inside-index z p)
 
 -- What holds of an accepted instant whose day has the index i.
@@ -74,8 +75,8 @@ unfolding acceptance
 accepted-at d m i e = by (outside d) (leb dayMicros m) refl refl e
   where
     by : (a b : Bool) → outside d ≡ a → leb dayMicros m ≡ b → cond a (NotAccepted 8) (cond b (NotAccepted 9) (Accepted (indexAt d))) ≡ Accepted i → AcceptedAt d m i
-    by true b p q e = let w : _≡_ {A = ℕ} 0 1 = cc in let v : ⊥ = omega arith in absurd v
-    by false true p q e = let w : _≡_ {A = ℕ} 0 1 = cc in let v : ⊥ = omega arith in absurd v
+    by true b p q e = no-case (cc)
+    by false true p q e = no-case (cc)
     by false false p q e =
         let f : indexAt d ≡ i = cc in
         let h : HasIndex d i = rw f at (inside-index d p) in

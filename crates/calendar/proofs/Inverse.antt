@@ -8,6 +8,7 @@ use native.Mathlib.Numerals.{add-one}
 use lib.Dec.{ltb}
 use lib.IntN.{ℤ, pos, _+ℤ_, _-ℤ_, natAbs}
 use borrow.Author.Tests.{le-ltb, ltb-false}
+use Rattle.calendar.proofs.Cases.{no-case}
 use Rattle.calendar.specs.declared.Date.{Date}
 use Rattle.calendar.specs.declared.DayAnswer.{DayAnswer}
 use Rattle.calendar.specs.declared.DayAnswer.the-variants.{Day, NoDay}
@@ -40,8 +41,8 @@ accepted-day y m d a =
     simp (le-ltb y firstYear (a .from), le-ltb lastYear y (a .to), le-ltb m 1 (a .one), le-ltb 12 m (a .twelve), le-ltb d 1 (a .first), le-ltb (monthLength y m) d (a .last))
 
 past : (a b : Bool) (x : DayAnswer) (k : ℕ) (z : ℤ) → cond (a || b) (NoDay k) x ≡ Day z → (a ≡ false) × ((b ≡ false) × (x ≡ Day z))
-past true b x k z e = let w : _≡_ {A = ℕ} 0 1 = cc in let v : ⊥ = omega arith in absurd v
-past false true x k z e = let w : _≡_ {A = ℕ} 0 1 = cc in let v : ⊥ = omega arith in absurd v
+past true b x k z e = no-case (cc)
+past false true x k z e = no-case (cc)
 past false false x k z e = (refl, (refl, e))
 
 -- PROMISE. Only an accepted date has a day number.
@@ -103,7 +104,7 @@ unfolding dateOf
 date-range z t e = by (outside z) e
   where
     by : (a : Bool) → cond a (NoDate 8) (OnDate (dateAfter (indexAt z))) ≡ OnDate t → (a ≡ false) × (t ≡ dateAfter (indexAt z))
-    by true e = let w : _≡_ {A = ℕ} 0 1 = cc in let v : ⊥ = omega arith in absurd v
+    by true e = no-case (cc)
     by false e = (refl, cc)
 
 -- a date whose index is in range is accepted

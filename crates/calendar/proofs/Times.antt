@@ -6,6 +6,7 @@ use native.Mathlib.Omega.{arith}
 use lib.Dec.{ltb}
 use lib.IntN.{ℤ}
 use borrow.Author.Tests.{ltb-false}
+use Rattle.calendar.proofs.Cases.{no-case}
 use Rattle.calendar.specs.declared.Instant.{Instant}
 use Rattle.calendar.specs.declared.DayAnswer.{DayAnswer}
 use Rattle.calendar.specs.declared.DayAnswer.the-variants.{Day, NoDay}
@@ -32,10 +33,10 @@ time-accepted d h n s u t e = by (ltb 23 h) (ltb 59 n) (ltb 59 s) (ltb 999999 u)
     by : (p q r w : Bool) → ltb 23 h ≡ p → ltb 59 n ≡ q → ltb 59 s ≡ r → ltb 999999 u ≡ w
         → cond p (NoInstant 4) (cond q (NoInstant 5) (cond r (NoInstant 6) (cond w (NoInstant 7) (AtInstant (instant d (microsOfTime h n s u)))))) ≡ AtInstant t
         → OfTime d h n s u t
-    by true q r w a b c f e = let x : _≡_ {A = ℕ} 0 1 = cc in let v : ⊥ = omega arith in absurd v
-    by false true r w a b c f e = let x : _≡_ {A = ℕ} 0 1 = cc in let v : ⊥ = omega arith in absurd v
-    by false false true w a b c f e = let x : _≡_ {A = ℕ} 0 1 = cc in let v : ⊥ = omega arith in absurd v
-    by false false false true a b c f e = let x : _≡_ {A = ℕ} 0 1 = cc in let v : ⊥ = omega arith in absurd v
+    by true q r w a b c f e = no-case (cc)
+    by false true r w a b c f e = no-case (cc)
+    by false false true w a b c f e = no-case (cc)
+    by false false false true a b c f e = no-case (cc)
     by false false false false a b c f e =
         let i : instant d (microsOfTime h n s u) ≡ t = cc in
         record { hour = ltb-false _ _ a; minute = ltb-false _ _ b; second = ltb-false _ _ c; microsecond = ltb-false _ _ f; is = sym i }
@@ -49,7 +50,7 @@ unfolding instantOf
 instant-accepted y m d h n s u t e = by (dayOf y m d) refl e
   where
     by : (a : DayAnswer) → dayOf y m d ≡ a → timeBy a h n s u ≡ AtInstant t → (a ≡ Day (t .day)) × IsAccepted (t .day) (t .micros)
-    by (NoDay k) f e = let x : _≡_ {A = ℕ} 0 1 = cc in let v : ⊥ = omega arith in absurd v
+    by (NoDay k) f e = no-case (cc)
     by (Day z) f e =
         let o : OfTime z h n s u t = time-accepted z h n s u t e in
         let i : outside z ≡ false = date-range z (date y m d) (there-and-back y m d z f) .0 in

@@ -6,6 +6,7 @@ use native.Mathlib.Omega.{arith}
 use lib.Dec.{ltb, eqb}
 use lib.IntN.{ℤ, pos, negsuc, subℕ, negℤ, _+ℤ_, _-ℤ_, natAbs, negℤ-+ℤ, +ℤ-comm, +ℤ-assoc, +ℤ-invr, +ℤ-idl, -ℤ-+ℤ-cancel}
 use borrow.Author.Tests.{eq-eqb, ne-eqb, ltb-true, ltb-false, eqb-true}
+use Rattle.calendar.proofs.Cases.{no-case}
 use Rattle.calendar.specs.declared.Instant.{Instant}
 use Rattle.calendar.specs.declared.Acceptance.{Acceptance}
 use Rattle.calendar.specs.declared.Acceptance.the-variants.{Accepted, NotAccepted}
@@ -34,7 +35,7 @@ unfolding splitOf
 was-split d m w e = by (acceptance d m) refl e
   where
     by : (a : Acceptance) → acceptance d m ≡ a → splitBy a d m ≡ Split w → WasSplit d m w
-    by (NotAccepted n) p e = let x : _≡_ {A = ℕ} 0 1 = cc in let v : ⊥ = omega arith in absurd v
+    by (NotAccepted n) p e = no-case (cc)
     by (Accepted i) p e =
         let a : AcceptedAt d m i = accepted-at d m i p in
         let f : words d (timeWord d m) ≡ w = cc in
@@ -56,7 +57,7 @@ unfolding joinOf
 was-joined d t i e = by (acceptance d (t % markUnit)) (eqb (t / markUnit) (mark d)) refl refl e
   where
     by : (a : Acceptance) (c : Bool) → acceptance d (t % markUnit) ≡ a → eqb (t / markUnit) (mark d) ≡ c → joinBy a d t ≡ Joined i → WasJoined d t i
-    by (NotAccepted n) c p r e = let x : _≡_ {A = ℕ} 0 1 = cc in let v : ⊥ = omega arith in absurd v
+    by (NotAccepted n) c p r e = no-case (cc)
     by (Accepted k) true p r e =
         let a : AcceptedAt d (t % markUnit) k = accepted-at d (t % markUnit) k p in
         let g : Joined (instant d (t % markUnit)) ≡ Joined i = simp r at e in
@@ -64,7 +65,7 @@ was-joined d t i e = by (acceptance d (t % markUnit)) (eqb (t / markUnit) (mark 
         record { accepted = subst (AcceptedAt d (t % markUnit)) (sym (a .index)) a; marked = eqb-true _ _ r; is = sym f }
     by (Accepted k) false p r e =
         let g : NoJoin 10 ≡ Joined i = simp r at e in
-        let x : _≡_ {A = ℕ} 0 1 = cc in let v : ⊥ = omega arith in absurd v
+        no-case (cc)
 
 -- PROMISE. Splitting an accepted instant and joining the words gives the instant back.
 pub split-then-join : (d : ℤ) (m : ℕ) → IsAccepted d m → joinOf d (timeWord d m) ≡ Joined (instant d m)
