@@ -127,7 +127,7 @@ mul-most A B (fin s m e) nan k a b = absurd b
 mul-most A B (fin s m e) (inf t) k a b = absurd b
 mul-most A B (fin s m e) (fin t n d) k a b =
     rounded (A * B) (unlike s t) (m * up e * (n * up d)) (down e * down d) (mul-pos (down-pos e) (down-pos d)) k
-    (le-trans (mul-le-mul a b) (le-of-eq (simp (mul-assoc, mul-comm, mul-left-comm))))
+    (le-trans (mul-le-mul a b) (le-of-eq (simp (mul-assoc, mul-left-comm))))
 
 pub multiplied : {A B : ℕ} {x y : Float} → T (leb (A * B) (2 ^ 53)) → Bound A x → Bound B y → Bound (A * B) (x ⊗ y)
 multiplied {A} {B} {x} {y} k a b = record { most = mul-most A B x y (leb→le (A * B) (2 ^ 53) k) (a .most) (b .most) }

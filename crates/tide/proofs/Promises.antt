@@ -1,10 +1,10 @@
 -- What is promised of the frequency and the phase. Assumes nothing.
-use mathlib.Core.Path.{_≡_, refl, sym, ap, subst, _∙_}
+use mathlib.Core.Path.{_≡_, refl, sym, ap, _∙_}
 use mathlib.Core.Bool.{Bool, true, false, cond}
-use Prim.Native.Nat.{ℕ, _≤_, _<_}
+use Prim.Native.Nat.{ℕ, _<_}
 use lib.Dec.{T, leb}
 use lib.IntN.{ℤ, pos}
-use lib.Ieee.{Float, rem, lt, eq, ofInt}
+use lib.Ieee.{rem, lt, eq, ofInt}
 use borrow.Author.Tests.{leb-true, leb-false}
 use Rattle.calendar.specs.Limits.{dayMicros}
 use Rattle.calendar.specs.Instants.{outside, indexAt, acceptance, IsAccepted}
@@ -13,7 +13,6 @@ use Rattle.calendar.specs.declared.Acceptance.the-variants.{Accepted, NotAccept
 use Rattle.calendar.proofs.Index.{accepted-at}
 use Rattle.tide.specs.declared.Doodson.{Doodson}
 use Rattle.tide.specs.declared.Arguments.{Arguments}
-use Rattle.tide.specs.declared.Answer.{Answer}
 use Rattle.tide.specs.declared.Answer.the-variants.{Given, Refused}
 use Rattle.tide.specs.Binary64.{zero64}
 use Rattle.tide.specs.Tidal.{argumentsAt, sumOfProducts, turn, raised, settled, reduced, constituentOf, allInRange, answerOf, tideBy, tideOf, frequencyOf, phaseOf, refusalOf, doodson}

@@ -1,12 +1,11 @@
--- A phase is at least 0 and below 360, whatever sum it is the normal form of. Assumes nothing.
+-- The phase of any sum of degrees, a NaN and the infinities too, is at least 0 and below 360. Assumes nothing.
 use mathlib.Core.Path.{_≡_, refl, sym, ap, subst, _∙_}
-use Prim.Native.Nat.{ℕ, zero, suc, _+_, _-_, _*_, _%_, _^_, _≤_, _<_}
-use native.Mathlib.Nat.{le-trans, le-of-eq, le-of-lt, mul-one, mul-comm, zero-mul, mod-lt, mul-pos}
+use Prim.Native.Nat.{ℕ, _+_, _-_, _*_, _%_, _≤_, _<_}
+use native.Mathlib.Nat.{le-trans, le-of-eq, le-of-lt, mul-one, mod-lt, mul-pos}
 use native.Mathlib.Omega.{arith}
 use mathlib.Core.Bool.{Bool, true, false, cond, _&&_, true≢false}
-use borrow.Author.Tests.{le-ltb, ltb-true, ltb-false, eq-eqb}
-use lib.Dec.{T, ltb, leb, eqb, lit<, lit≤}
-use lib.IntN.{ℤ, pos}
+use borrow.Author.Tests.{le-ltb, ltb-true, ltb-false}
+use lib.Dec.{ltb, eqb, lit<, lit≤}
 use lib.Ieee.{Float, nan, inf, fin, binary64, up, down, round, add, rem, sum, lt, eq, ofInt}
 use lib.Ieee.Fits.{down-pos}
 use Rattle.tide.specs.Binary64.{zero64}
@@ -50,7 +49,7 @@ rem-small (fin s m e) =
     (round-within s n (down e * 1) 360 (subst (λ (z : ℕ). 0 < z) (sym (mul-one (down e))) (down-pos e)) (lit≤ tt)
     (subst (λ (z : ℕ). n ≤ 360 * z) (sym (mul-one (down e))) (le-of-lt (mod-lt (m * up e * 1) (mul-pos (lit< tt) (down-pos e))))))
 
--- ---- brought up by a turn it is not below zero
+-- ---- raised it is not below zero
 up-above : (x : Float) → Small x → lt (add binary64 x turn) zero64 ≡ false
 unfolding add turn ofInt sum
 up-above nan h = unfold lt in refl

@@ -1,5 +1,5 @@
 -- The day number and the six multipliers, as binary64 holds them and as they go through calls. Assumes nothing.
-use mathlib.Core.Path.{_≡_, ap}
+use mathlib.Core.Path.{_≡_}
 use mathlib.Core.Bool.{Bool, true, false, cond, _&&_}
 use Prim.Native.Nat.{ℕ, suc, _-_, _≤_, _<_, _^_}
 use native.Mathlib.Omega.{arith}
@@ -14,7 +14,7 @@ use mir.Facts.{toZ-ofZ}
 use Rattle.calendar.specs.Instants.{IsAccepted, indexAt}
 use Rattle.calendar.proofs.Index.{accepted-at}
 use Rattle.tide.specs.declared.Doodson.{Doodson}
-use Rattle.tide.specs.Tidal.{inRange, allInRange, doodson}
+use Rattle.tide.specs.Tidal.{inRange, allInRange, tideOf, doodson}
 
 -- ---- binary64 holds a whole number up to 2 ^ 53 in size
 pub size-in-float : (z : ℤ) → natAbs z ≤ 2 ^ 53 → T (inFloat binary64 z)
@@ -49,9 +49,10 @@ back z h = toZ-ofZ (record { sfits = h })
 pub range-back : (z : ℤ) → mag z < 2 ^ 63 → T (inRange z) → T (inRange (read z))
 range-back z h t = rw (back z h) t
 
-pub six-back : {k1 k2 k3 k4 k5 k6 : ℤ} → SFits w64 k1 → SFits w64 k2 → SFits w64 k3 → SFits w64 k4 → SFits w64 k5 → SFits w64 k6
-    → doodson (read k1) (read k2) (read k3) (read k4) (read k5) (read k6) ≡ doodson k1 k2 k3 k4 k5 k6
-six-back h1 h2 h3 h4 h5 h6 = rw (toZ-ofZ h1, toZ-ofZ h2, toZ-ofZ h3, toZ-ofZ h4, toZ-ofZ h5, toZ-ofZ h6)
+-- what an exported call asks for is what it was handed
+pub asked-back : {d k1 k2 k3 k4 k5 k6 : ℤ} (m : ℕ) → SFits w64 d → SFits w64 k1 → SFits w64 k2 → SFits w64 k3 → SFits w64 k4 → SFits w64 k5 → SFits w64 k6
+    → tideOf (read d) m (doodson (read k1) (read k2) (read k3) (read k4) (read k5) (read k6)) ≡ tideOf d m (doodson k1 k2 k3 k4 k5 k6)
+asked-back m h h1 h2 h3 h4 h5 h6 = rw (toZ-ofZ h, toZ-ofZ h1, toZ-ofZ h2, toZ-ofZ h3, toZ-ofZ h4, toZ-ofZ h5, toZ-ofZ h6)
 
 -- ---- where all multipliers are in range, each is
 pub record Each (k : Doodson) : Type 0 where

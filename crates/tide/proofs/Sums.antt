@@ -4,7 +4,7 @@ use Prim.Native.Nat.{ℕ, _≤_, _<_}
 use native.Mathlib.Nat.{le-of-lt}
 use lib.Dec.{T, lit≤, lit<}
 use lib.IntN.{ℤ, pos, natAbs}
-use lib.Ieee.{Float, binary64, ofInt}
+use lib.Ieee.{Float, ofInt}
 use Rattle.calendar.specs.Limits.{dayMicros}
 use Rattle.calendar.specs.Instants.{IsAccepted, indexAt}
 use Rattle.calendar.proofs.Index.{accepted-at}
@@ -26,28 +26,28 @@ unfolding centuries ofInt decimal
 centuries-bound d f h a = divided 36525 0 tt refl (lit< tt) (wide tt (added tt (subtracted tt (subtracted tt (number 198006 d tt h) (number 51544 (pos 51544) tt (lit≤ tt))) (known {B = 1} tt)) a))
 
 -- ---- the Delaunay arguments
-nested-bound : {t c0 c1 c2 c3 c4 : Float} → Bound 7 t → Bound 400 c0 → Bound 500000 c1 → Bound 1 c2 → Bound 1 c3 → Bound 1 c4 → Bound 3503193 (nested t c0 c1 c2 c3 c4)
+nested-bound : {t c0 c1 c2 c3 c4 : Float} → Bound 7 t → Bound 400 c0 → Bound 500_000 c1 → Bound 1 c2 → Bound 1 c3 → Bound 1 c4 → Bound 3_503_193 (nested t c0 c1 c2 c3 c4)
 unfolding nested
 nested-bound t c0 c1 c2 c3 c4 = added tt c0 (multiplied tt t (added tt c1 (multiplied tt t (added tt c2 (multiplied tt t (added tt c3 (multiplied tt t c4)))))))
 
 module _ {t : Float} (h : Bound 7 t) where
-  F1-bound : Bound 3503193 (F1 t)
+  F1-bound : Bound 3_503_193 (F1 t)
   unfolding F1 decimal
   F1-bound = nested-bound h (known tt) (known tt) (known tt) (known tt) (known tt)
 
-  F2-bound : Bound 3503193 (F2 t)
+  F2-bound : Bound 3_503_193 (F2 t)
   unfolding F2 decimal
   F2-bound = nested-bound h (known tt) (known tt) (known tt) (known tt) (known tt)
 
-  F3-bound : Bound 3503193 (F3 t)
+  F3-bound : Bound 3_503_193 (F3 t)
   unfolding F3 decimal
   F3-bound = nested-bound h (known tt) (known tt) (known tt) (known tt) (known tt)
 
-  F4-bound : Bound 3503193 (F4 t)
+  F4-bound : Bound 3_503_193 (F4 t)
   unfolding F4 decimal
   F4-bound = nested-bound h (known tt) (known tt) (known tt) (known tt) (known tt)
 
-  F5-bound : Bound 3503193 (F5 t)
+  F5-bound : Bound 3_503_193 (F5 t)
   unfolding F5 decimal
   F5-bound = nested-bound h (known tt) (known tt) (known tt) (known tt) (known tt)
 
@@ -72,19 +72,22 @@ unfolding FD2 decimal
 FD2-bound = known tt
 
 -- ---- the Doodson arguments: each of the twelve is at most 15 million in size
+abbrev pub Limited : Float → Type 0
+Limited x = Bound 15_000_000 x
+
 pub record Bounds (a : Arguments) : Type 0 where
-  pub d1 : Bound 15000000 (a .d1)
-  pub d2 : Bound 15000000 (a .d2)
-  pub d3 : Bound 15000000 (a .d3)
-  pub d4 : Bound 15000000 (a .d4)
-  pub d5 : Bound 15000000 (a .d5)
-  pub d6 : Bound 15000000 (a .d6)
-  pub dd1 : Bound 15000000 (a .dd1)
-  pub dd2 : Bound 15000000 (a .dd2)
-  pub dd3 : Bound 15000000 (a .dd3)
-  pub dd4 : Bound 15000000 (a .dd4)
-  pub dd5 : Bound 15000000 (a .dd5)
-  pub dd6 : Bound 15000000 (a .dd6)
+  pub d1 : Limited (a .d1)
+  pub d2 : Limited (a .d2)
+  pub d3 : Limited (a .d3)
+  pub d4 : Limited (a .d4)
+  pub d5 : Limited (a .d5)
+  pub d6 : Limited (a .d6)
+  pub dd1 : Limited (a .dd1)
+  pub dd2 : Limited (a .dd2)
+  pub dd3 : Limited (a .dd3)
+  pub dd4 : Limited (a .dd4)
+  pub dd5 : Limited (a .dd5)
+  pub dd6 : Limited (a .dd6)
 
 bounds-of : (f t : Float) → Bound 1 f → Bound 7 t → Bounds (argumentsOf f t)
 unfolding argumentsOf
@@ -119,8 +122,8 @@ multiplier : (z : ℤ) → T (inRange z) → Bound 12 (whole z)
 multiplier z h = number 12 z tt (range-size z h)
 
 pub sum-bound : (k : Doodson) {x1 x2 x3 x4 x5 x6 : Float} → T (allInRange k)
-    → Bound 15000000 x1 → Bound 15000000 x2 → Bound 15000000 x3 → Bound 15000000 x4 → Bound 15000000 x5 → Bound 15000000 x6
-    → Bound 1080000000 (sumOfProducts k x1 x2 x3 x4 x5 x6)
+    → Limited x1 → Limited x2 → Limited x3 → Limited x4 → Limited x5 → Limited x6
+    → Bound 1_080_000_000 (sumOfProducts k x1 x2 x3 x4 x5 x6)
 unfolding sumOfProducts
 sum-bound k h x1 x2 x3 x4 x5 x6 =
     let e : Each k = each k h in
@@ -133,7 +136,7 @@ sum-bound k h x1 x2 x3 x4 x5 x6 =
     (multiplied tt (multiplier (k .k6) (e .k6)) x6)
 
 pub zero-sum : {x1 x2 x3 x4 x5 x6 : Float}
-    → Bound 15000000 x1 → Bound 15000000 x2 → Bound 15000000 x3 → Bound 15000000 x4 → Bound 15000000 x5 → Bound 15000000 x6
+    → Limited x1 → Limited x2 → Limited x3 → Limited x4 → Limited x5 → Limited x6
     → sumOfProducts (doodson (pos 0) (pos 0) (pos 0) (pos 0) (pos 0) (pos 0)) x1 x2 x3 x4 x5 x6 ≡ zero64
 unfolding sumOfProducts
 zero-sum h1 h2 h3 h4 h5 h6 = rw (zero-product h1, zero-product h2, zero-product h3, zero-product h4, zero-product h5, zero-product h6)

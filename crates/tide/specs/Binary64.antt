@@ -1,4 +1,4 @@
--- The words for binary64 numbers. Each operation is that of `lib.Ieee`: the exact result, rounded once to nearest.
+-- The words for binary64 numbers. Each operation is that of `lib.Ieee`: the binary64 nearest to the exact result.
 use Prim.Native.Nat.{ℕ}
 use mathlib.Core.Bool.{Bool, false, true}
 use lib.IntN.{ℤ, pos}

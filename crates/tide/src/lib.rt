@@ -1,5 +1,6 @@
 // Frequency and phase of a tidal constituent, from its six Doodson multipliers and an instant of
-// Terrestrial Time. Derived from the IERS routine TDFRPH; docs/DIFFERENCES.md says how it differs.
+// Terrestrial Time. This is not IERS Conventions software: it is derived from the routine TDFRPH of
+// that collection, and docs/DIFFERENCES.md says how it differs.
 use calendar::Acceptance;
 ghost use mathlib.Core.Path.{_≡_};
 ghost use Prim.Native.Nat.{_<_};

@@ -1,9 +1,7 @@
 -- `tide::frequency_and_phase` meets its contract. Assumes nothing.
-use mathlib.Core.Path.{_≡_, _∙_, ap, sym}
+use mathlib.Core.Path.{_∙_, ap, sym}
 use borrow.Author.Needs.{needs}
-use lib.IntN.{ℤ}
 use mir.Facts.{toZ-ofZ}
-use Rattle.calendar.specs.Instants.{acceptance, IsAccepted}
 use Rattle.calendar.specs.declared.Acceptance.the-variants.{Accepted}
 use Rattle.calendar.proofs.Index.{accepted-at}
 use Rattle.tide.specs.Tidal.{tideOf}

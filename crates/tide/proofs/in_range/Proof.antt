@@ -1,5 +1,5 @@
 -- `tide::in_range` meets its contract. Assumes nothing.
-use mathlib.Core.Path.{_≡_, sym, ap}
+use mathlib.Core.Path.{sym, ap}
 use mathlib.Core.Bool.{Bool, _&&_}
 use lib.IntN.{pos}
 use lib.Signed.{leZ}
