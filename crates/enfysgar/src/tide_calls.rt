@@ -1,0 +1,76 @@
+// Service (d): frequency and phase of a tidal constituent.
+use tide::Doodson;
+ghost use mathlib.Core.Path.{_≡_};
+ghost use Rattle.tide.specs.Tidal.{tideOf, frequencyOf, phaseOf, refusalOf, doodson};
+
+#[no_mangle]
+pub extern "C" fn enfys_tide_frequency(
+    day: i64,
+    micros: u64,
+    k1: i64,
+    k2: i64,
+    k3: i64,
+    k4: i64,
+    k5: i64,
+    k6: i64,
+) -> f64
+    ensures { λ r. ⌜ r ≡ frequencyOf (tideOf day micros (doodson k1 k2 k3 k4 k5 k6)) ⌝ }
+{
+    let k = Doodson {
+        k1,
+        k2,
+        k3,
+        k4,
+        k5,
+        k6,
+    };
+    tide::frequency(tide::frequency_and_phase(day, micros, k))
+}
+
+#[no_mangle]
+pub extern "C" fn enfys_tide_phase(
+    day: i64,
+    micros: u64,
+    k1: i64,
+    k2: i64,
+    k3: i64,
+    k4: i64,
+    k5: i64,
+    k6: i64,
+) -> f64
+    ensures { λ r. ⌜ r ≡ phaseOf (tideOf day micros (doodson k1 k2 k3 k4 k5 k6)) ⌝ }
+{
+    let k = Doodson {
+        k1,
+        k2,
+        k3,
+        k4,
+        k5,
+        k6,
+    };
+    tide::phase(tide::frequency_and_phase(day, micros, k))
+}
+
+#[no_mangle]
+pub extern "C" fn enfys_tide_refusal(
+    day: i64,
+    micros: u64,
+    k1: i64,
+    k2: i64,
+    k3: i64,
+    k4: i64,
+    k5: i64,
+    k6: i64,
+) -> u32
+    ensures { λ r. ⌜ r ≡ refusalOf (tideOf day micros (doodson k1 k2 k3 k4 k5 k6)) ⌝ }
+{
+    let k = Doodson {
+        k1,
+        k2,
+        k3,
+        k4,
+        k5,
+        k6,
+    };
+    tide::refusal(tide::frequency_and_phase(day, micros, k))
+}

@@ -1,0 +1,142 @@
+-- Bounds of the arguments at an accepted instant, of any day from 1600 to 2400, and of the sums of products. Assumes nothing.
+use mathlib.Core.Path.{_≡_, refl}
+use Prim.Native.Nat.{ℕ, _≤_, _<_}
+use native.Mathlib.Nat.{le-of-lt}
+use lib.Dec.{T, lit≤, lit<}
+use lib.IntN.{ℤ, pos, natAbs}
+use lib.Ieee.{Float, ofInt}
+use Rattle.calendar.specs.Limits.{dayMicros}
+use Rattle.calendar.specs.Instants.{IsAccepted, indexAt}
+use Rattle.calendar.proofs.Index.{accepted-at}
+use Rattle.tide.specs.declared.Doodson.{Doodson}
+use Rattle.tide.specs.declared.Arguments.{Arguments}
+use Rattle.tide.specs.Binary64.{whole, decimal, zero64}
+use Rattle.tide.specs.Delaunay.{nested, F1, F2, F3, F4, F5, FD1, FD2, FD3, FD4, FD5}
+use Rattle.tide.specs.Tidal.{dayFraction, centuries, argumentsOf, argumentsAt, sumOfProducts, inRange, allInRange, doodson}
+use Rattle.tide.proofs.Signed.{accepted-size, range-size, Each, each}
+use Rattle.tide.proofs.Bounded.{Bound, known, number, wide, negated, added, subtracted, multiplied, divided, zero-product}
+
+-- ---- f and t
+fraction-bound : (m : ℕ) → m < dayMicros → Bound 1 (dayFraction m)
+unfolding dayFraction ofInt
+fraction-bound m h = divided 10546875 13 tt refl (lit< tt) (number 86_400_000_000 (pos m) tt (le-of-lt h))
+
+centuries-bound : (d : ℤ) (f : Float) → natAbs d ≤ 198006 → Bound 1 f → Bound 7 (centuries d f)
+unfolding centuries ofInt decimal
+centuries-bound d f h a = divided 36525 0 tt refl (lit< tt) (wide tt (added tt (subtracted tt (subtracted tt (number 198006 d tt h) (number 51544 (pos 51544) tt (lit≤ tt))) (known {B = 1} tt)) a))
+
+-- ---- the Delaunay arguments
+nested-bound : {t c0 c1 c2 c3 c4 : Float} → Bound 7 t → Bound 400 c0 → Bound 500_000 c1 → Bound 1 c2 → Bound 1 c3 → Bound 1 c4 → Bound 3_503_193 (nested t c0 c1 c2 c3 c4)
+unfolding nested
+nested-bound t c0 c1 c2 c3 c4 = added tt c0 (multiplied tt t (added tt c1 (multiplied tt t (added tt c2 (multiplied tt t (added tt c3 (multiplied tt t c4)))))))
+
+module _ {t : Float} (h : Bound 7 t) where
+  F1-bound : Bound 3_503_193 (F1 t)
+  unfolding F1 decimal
+  F1-bound = nested-bound h (known tt) (known tt) (known tt) (known tt) (known tt)
+
+  F2-bound : Bound 3_503_193 (F2 t)
+  unfolding F2 decimal
+  F2-bound = nested-bound h (known tt) (known tt) (known tt) (known tt) (known tt)
+
+  F3-bound : Bound 3_503_193 (F3 t)
+  unfolding F3 decimal
+  F3-bound = nested-bound h (known tt) (known tt) (known tt) (known tt) (known tt)
+
+  F4-bound : Bound 3_503_193 (F4 t)
+  unfolding F4 decimal
+  F4-bound = nested-bound h (known tt) (known tt) (known tt) (known tt) (known tt)
+
+  F5-bound : Bound 3_503_193 (F5 t)
+  unfolding F5 decimal
+  F5-bound = nested-bound h (known tt) (known tt) (known tt) (known tt) (known tt)
+
+  FD1-bound : Bound 8 (FD1 t)
+  unfolding FD1 decimal
+  FD1-bound = added {A = 1} tt (known tt) (multiplied {A = 1} tt (known tt) h)
+
+  FD3-bound : Bound 8 (FD3 t)
+  unfolding FD3 decimal
+  FD3-bound = subtracted {A = 1} tt (known tt) (multiplied {A = 1} tt (known tt) h)
+
+  FD4-bound : Bound 8 (FD4 t)
+  unfolding FD4 decimal
+  FD4-bound = subtracted {A = 1} tt (known tt) (multiplied {A = 1} tt (known tt) h)
+
+  FD5-bound : Bound 8 (FD5 t)
+  unfolding FD5 decimal
+  FD5-bound = added {A = 1} tt (known tt) (multiplied {A = 1} tt (known tt) h)
+
+FD2-bound : Bound 1 FD2
+unfolding FD2 decimal
+FD2-bound = known tt
+
+-- ---- the Doodson arguments: each of the twelve is at most 15 million in size
+abbrev pub Limited : Float → Type 0
+Limited x = Bound 15_000_000 x
+
+pub record Bounds (a : Arguments) : Type 0 where
+  pub d1 : Limited (a .d1)
+  pub d2 : Limited (a .d2)
+  pub d3 : Limited (a .d3)
+  pub d4 : Limited (a .d4)
+  pub d5 : Limited (a .d5)
+  pub d6 : Limited (a .d6)
+  pub dd1 : Limited (a .dd1)
+  pub dd2 : Limited (a .dd2)
+  pub dd3 : Limited (a .dd3)
+  pub dd4 : Limited (a .dd4)
+  pub dd5 : Limited (a .dd5)
+  pub dd6 : Limited (a .dd6)
+
+bounds-of : (f t : Float) → Bound 1 f → Bound 7 t → Bounds (argumentsOf f t)
+unfolding argumentsOf
+bounds-of f t hf ht =
+    let d2 = added tt (F3-bound ht) (F5-bound ht) in
+    let d3 = subtracted tt d2 (F4-bound ht) in
+    let dd2 = added tt (FD3-bound ht) (FD5-bound ht) in
+    let dd3 = subtracted tt dd2 (FD4-bound ht) in
+    record {
+      d1 = wide tt (subtracted tt (multiplied tt (number 360 (pos 360) tt (lit≤ tt)) hf) (F4-bound ht));
+      d2 = wide tt d2;
+      d3 = wide tt d3;
+      d4 = wide tt (subtracted tt d2 (F1-bound ht));
+      d5 = wide tt (negated (F5-bound ht));
+      d6 = wide tt (subtracted tt d3 (F2-bound ht));
+      dd1 = wide tt (subtracted tt (number 1 (pos 1) tt (lit≤ tt)) (FD4-bound ht));
+      dd2 = wide tt dd2;
+      dd3 = wide tt dd3;
+      dd4 = wide tt (subtracted tt dd2 (FD1-bound ht));
+      dd5 = wide tt (negated (FD5-bound ht));
+      dd6 = wide tt (subtracted tt dd3 FD2-bound);
+    }
+
+pub bounds-at : (d : ℤ) (m : ℕ) → IsAccepted d m → Bounds (argumentsAt d m)
+unfolding argumentsAt
+bounds-at d m h =
+    let f = fraction-bound m (accepted-at d m (indexAt d) h .less) in
+    bounds-of (dayFraction m) (centuries d (dayFraction m)) f (centuries-bound d (dayFraction m) (accepted-size d m h) f)
+
+-- ---- the sums
+multiplier : (z : ℤ) → T (inRange z) → Bound 12 (whole z)
+multiplier z h = number 12 z tt (range-size z h)
+
+pub sum-bound : (k : Doodson) {x1 x2 x3 x4 x5 x6 : Float} → T (allInRange k)
+    → Limited x1 → Limited x2 → Limited x3 → Limited x4 → Limited x5 → Limited x6
+    → Bound 1_080_000_000 (sumOfProducts k x1 x2 x3 x4 x5 x6)
+unfolding sumOfProducts
+sum-bound k h x1 x2 x3 x4 x5 x6 =
+    let e : Each k = each k h in
+    added tt (added tt (added tt (added tt (added tt (added tt (known {B = 0} {x = zero64} tt)
+    (multiplied tt (multiplier (k .k1) (e .k1)) x1))
+    (multiplied tt (multiplier (k .k2) (e .k2)) x2))
+    (multiplied tt (multiplier (k .k3) (e .k3)) x3))
+    (multiplied tt (multiplier (k .k4) (e .k4)) x4))
+    (multiplied tt (multiplier (k .k5) (e .k5)) x5))
+    (multiplied tt (multiplier (k .k6) (e .k6)) x6)
+
+pub zero-sum : {x1 x2 x3 x4 x5 x6 : Float}
+    → Limited x1 → Limited x2 → Limited x3 → Limited x4 → Limited x5 → Limited x6
+    → sumOfProducts (doodson (pos 0) (pos 0) (pos 0) (pos 0) (pos 0) (pos 0)) x1 x2 x3 x4 x5 x6 ≡ zero64
+unfolding sumOfProducts
+zero-sum h1 h2 h3 h4 h5 h6 = rw (zero-product h1, zero-product h2, zero-product h3, zero-product h4, zero-product h5, zero-product h6)

@@ -1,0 +1,113 @@
+-- The rules of docs/RULES.md for the frequency and phase of a tidal constituent, in their order.
+use Prim.Native.Nat.{ℕ}
+use mathlib.Core.Bool.{Bool, cond, _&&_}
+use lib.IntN.{ℤ, pos, negℤ}
+use lib.Signed.{leZ}
+use lib.Ieee as Ieee
+use lib.Ieee.{Float, binary64, neg}
+use Rattle.calendar.specs.Instants.{acceptance}
+use Rattle.calendar.specs.declared.Acceptance.{Acceptance}
+use Rattle.calendar.specs.declared.Acceptance.the-variants.{Accepted, NotAccepted}
+use Rattle.tide.specs.Binary64.{_⊕_, _⊖_, _⊗_, _⊘_, whole, zero64, plus}
+use Rattle.tide.specs.Delaunay.{F1, F2, F3, F4, F5, FD1, FD2, FD3, FD4, FD5}
+use Rattle.tide.specs.declared.Doodson.{Doodson}
+use Rattle.tide.specs.declared.Arguments.{Arguments}
+use Rattle.tide.specs.declared.Constituent.{Constituent}
+use Rattle.tide.specs.declared.Answer.{Answer}
+use Rattle.tide.specs.declared.Answer.the-variants.{Given, Refused}
+
+-- f, the fraction of the day after m microseconds: m / 86400000000
+unfoldable pub dayFraction : ℕ → Float
+dayFraction m = whole (pos m) ⊘ whole (pos 86_400_000_000)
+
+-- t, the Julian centuries from J2000.0 at the fraction f of day d: (((d - 51544) - 0.5) + f) / 36525
+unfoldable pub centuries : (d : ℤ) (f : Float) → Float
+centuries d f = (((whole d ⊖ whole (pos 51544)) ⊖ plus 0_5000000000) ⊕ f) ⊘ whole (pos 36525)
+
+-- the six Doodson arguments D1 to D6 in degrees and their frequencies DD1 to DD6 in cycles per day
+unfoldable pub argumentsOf : (f t : Float) → Arguments
+argumentsOf f t =
+    let D1 = whole (pos 360) ⊗ f ⊖ F4 t in
+    let D2 = F3 t ⊕ F5 t in
+    let D3 = D2 ⊖ F4 t in
+    let D4 = D2 ⊖ F1 t in
+    let D5 = neg (F5 t) in
+    let D6 = D3 ⊖ F2 t in
+    let DD1 = whole (pos 1) ⊖ FD4 t in
+    let DD2 = FD3 t ⊕ FD5 t in
+    let DD3 = DD2 ⊖ FD4 t in
+    let DD4 = DD2 ⊖ FD1 t in
+    let DD5 = neg (FD5 t) in
+    let DD6 = DD3 ⊖ FD2 in
+    record { d1 = D1; d2 = D2; d3 = D3; d4 = D4; d5 = D5; d6 = D6; dd1 = DD1; dd2 = DD2; dd3 = DD3; dd4 = DD4; dd5 = DD5; dd6 = DD6 }
+
+-- at one instant of Terrestrial Time: its microseconds give the hour angle, and the day with them the centuries
+unfoldable pub argumentsAt : (d : ℤ) (m : ℕ) → Arguments
+argumentsAt d m = argumentsOf (dayFraction m) (centuries d (dayFraction m))
+
+-- the products with the six multipliers, added in order from +0
+unfoldable pub sumOfProducts : Doodson → (x1 x2 x3 x4 x5 x6 : Float) → Float
+sumOfProducts k x1 x2 x3 x4 x5 x6 =
+    zero64 ⊕ whole (k .k1) ⊗ x1 ⊕ whole (k .k2) ⊗ x2 ⊕ whole (k .k3) ⊗ x3 ⊕ whole (k .k4) ⊗ x4 ⊕ whole (k .k5) ⊗ x5 ⊕ whole (k .k6) ⊗ x6
+
+-- 360 degrees
+unfoldable pub turn : Float
+turn = whole (pos 360)
+
+-- 360 is added to a remainder below zero
+unfoldable pub raised : Float → Float
+unfolding turn
+raised r = cond (Ieee.lt r zero64) (r ⊕ turn) r
+
+-- what is not below 360 becomes +0, and so does a zero of either sign
+unfoldable pub settled : Float → Float
+unfolding turn
+settled q = cond (Ieee.lt q turn) (cond (Ieee.eq q zero64) zero64 q) zero64
+
+-- the phase of a sum of degrees: its remainder by 360 (C's fmod), raised and settled
+unfoldable pub reduced : Float → Float
+unfolding turn raised settled
+reduced p = settled (raised (Ieee.rem binary64 p turn))
+
+-- the frequency and the phase
+unfoldable pub constituentOf : Arguments → Doodson → Constituent
+constituentOf a k = record {
+  frequency = sumOfProducts k (a .dd1) (a .dd2) (a .dd3) (a .dd4) (a .dd5) (a .dd6);
+  phase = reduced (sumOfProducts k (a .d1) (a .d2) (a .d3) (a .d4) (a .d5) (a .d6));
+}
+
+-- a multiplier from -12 to 12
+abbrev pub inRange : ℤ → Bool
+inRange z = leZ (negℤ (pos 12)) z && leZ z (pos 12)
+
+unfoldable pub allInRange : Doodson → Bool
+allInRange k = ((((inRange (k .k1) && inRange (k .k2)) && inRange (k .k3)) && inRange (k .k4)) && inRange (k .k5)) && inRange (k .k6)
+
+-- from arguments at hand: both numbers, or refusal 11
+unfoldable pub answerOf : Arguments → Doodson → Answer
+answerOf a k = cond (allInRange k) (Given (constituentOf a k)) (Refused 11)
+
+-- the first refusal that applies, of 8, 9 and 11; or both numbers
+abbrev pub tideBy : Acceptance → (d : ℤ) (m : ℕ) → Doodson → Answer
+tideBy (NotAccepted n) d m k = Refused n
+tideBy (Accepted i) d m k = answerOf (argumentsAt d m) k
+
+unfoldable pub tideOf : (d : ℤ) (m : ℕ) → Doodson → Answer
+tideOf d m k = tideBy (acceptance d m) d m k
+
+-- The numbers that the exported calls give: the frequency and the phase, +0 on a refusal, and the refusal number, 0 for none.
+abbrev pub frequencyOf : Answer → Float
+frequencyOf (Given x) = x .frequency
+frequencyOf (Refused n) = zero64
+
+abbrev pub phaseOf : Answer → Float
+phaseOf (Given x) = x .phase
+phaseOf (Refused n) = zero64
+
+abbrev pub refusalOf : Answer → ℕ
+refusalOf (Given x) = 0
+refusalOf (Refused n) = n
+
+-- the six multipliers as the exported calls take them
+abbrev pub doodson : (k1 k2 k3 k4 k5 k6 : ℤ) → Doodson
+doodson k1 k2 k3 k4 k5 k6 = record { k1 = k1; k2 = k2; k3 = k3; k4 = k4; k5 = k5; k6 = k6 }
