@@ -3,8 +3,9 @@
  * tests and benchmarks to compare the library with. It shares no code and no
  * table with the library. It is not part of the proved product.
  *
- * Each model_.. function returns the refusal number and, through its pointers,
- * the answer, or zeros where it refuses.
+ * A function that takes any input returns the refusal number and, through its
+ * pointers, the answer, or zeros where it refuses. The others take accepted
+ * inputs only and return the answer.
  */
 #ifndef MODEL_H
 #define MODEL_H
@@ -38,10 +39,6 @@ struct record {
     int32_t number[3]; /* UT1, length of day, rate */
 };
 
-struct tide {
-    double frequency, phase;
-};
-
 /* Calendar, instants and clock words (model_time.c). */
 uint32_t model_day_of_date(struct date date, int64_t *day);
 uint32_t model_date_of_day(int64_t day, struct date *date);
@@ -55,7 +52,9 @@ uint32_t model_join(struct instant words, struct instant *at);
  * 1, t, t^2, t^3, t^4 (model_tide.c).
  */
 extern const double model_delaunay[5][5];
-uint32_t model_tide(struct instant at, const int64_t k[6], struct tide *tide);
+uint32_t model_tide_refusal(struct instant at, const int64_t k[6]);
+double model_frequency(struct instant at, const int64_t k[6]);
+double model_phase(struct instant at, const int64_t k[6]);
 
 /* The three corrections of an accepted instant, in the units of the answers (model_zonal.c). */
 void model_zonal(struct instant at, double number[3]);

@@ -51,29 +51,48 @@ static double remove_turns(double degrees)
     return p;
 }
 
-uint32_t model_tide(struct instant at, const int64_t k[6], struct tide *tide)
+static double day_fraction(struct instant at)
 {
-    uint32_t refusal = model_accept(at);
-    double f, t, angle[5], speed[5], v[6];
+    return (double)at.micros / 86400000000.0;
+}
 
-    *tide = (struct tide){0.0, 0.0};
-    if (refusal)
-        return refusal;
-    for (int i = 0; i < 6; i++)
-        if (k[i] < -12 || k[i] > MISTAKE(13, 12, 13))
-            return 11;
-    f = (double)at.micros / 86400000000.0;
-    t = (((double)(at.day - 51544) - MISTAKE(14, 0.5, 0.0)) + f) / 36525.0;
+static double centuries(struct instant at)
+{
+    return (((double)(at.day - 51544) - MISTAKE(14, 0.5, 0.0)) + day_fraction(at)) / 36525.0;
+}
+
+double model_phase(struct instant at, const int64_t k[6])
+{
+    double t = centuries(at), angle[5], v[6];
+
     for (int i = 0; i < 5; i++) {
         const double *c = model_delaunay[i];
         double first = i == 4 ? MISTAKE(15, c[0], 125.0445550101) : c[0];
 
         angle[i] = first + t * (c[1] + t * (c[2] + t * (c[3] + t * c[4])));
-        speed[i] = motion[i][0] + motion[i][1] * t;
     }
+    doodson(360.0 * day_fraction(at), angle, v);
+    return remove_turns(sum(k, v));
+}
+
+double model_frequency(struct instant at, const int64_t k[6])
+{
+    double t = centuries(at), speed[5], v[6];
+
+    for (int i = 0; i < 5; i++)
+        speed[i] = motion[i][0] + motion[i][1] * t;
     doodson(1.0, speed, v);
-    tide->frequency = sum(k, v);
-    doodson(360.0 * f, angle, v);
-    tide->phase = remove_turns(sum(k, v));
+    return sum(k, v);
+}
+
+uint32_t model_tide_refusal(struct instant at, const int64_t k[6])
+{
+    uint32_t refusal = model_accept(at);
+
+    if (refusal)
+        return refusal;
+    for (int i = 0; i < 6; i++)
+        if (k[i] < -12 || k[i] > MISTAKE(13, 12, 13))
+            return 11;
     return 0;
 }

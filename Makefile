@@ -1,0 +1,63 @@
+# Enfysgar: building, testing and installing. The proofs and the compiled code come from `rt` (the Rattle kit).
+#
+#   make demo                a day of corrections, readable
+#   make test                the whole gate
+#   make examples            the example daemon, held to its stored output
+#   make bench               times against plain C
+#   make install PREFIX=..   header, archive, program, pkg-config file, manual page
+
+RT ?= rt
+CC ?= cc
+CFLAGS ?= -O2 -Wall -Wextra
+PREFIX ?= /usr/local
+VERSION = 1.0.0
+DAY ?= 2007 12 31 96 900
+
+ARCHIVE = target/staticlib/libenfysgar.a
+PROGRAM = target/bin/run_day
+CRATES = crates.txt $(shell find crates -name '*.rt' -o -name '*.antt')
+
+.PHONY: all archive program demo examples bench test install clean
+
+all: archive program
+
+archive: $(ARCHIVE)
+program: $(PROGRAM)
+
+$(ARCHIVE): $(CRATES)
+	$(RT) staticlib enfysgar
+
+$(PROGRAM): $(CRATES)
+	$(RT) check run_day
+
+build/examples/%: examples/%.c include/enfysgar.h $(ARCHIVE)
+	@mkdir -p build/examples
+	$(CC) -std=c11 $(CFLAGS) -Iinclude -o $@ $< $(ARCHIVE) -lm
+
+demo: $(PROGRAM) build/examples/show_records
+	echo "$(DAY)" | $(PROGRAM) | build/examples/show_records
+
+examples: build/examples/daemon build/examples/show_records
+	build/examples/daemon >build/examples/daemon.out
+	diff -u examples/daemon.expected build/examples/daemon.out
+	@echo "examples: the daemon wrote what it should"
+
+bench: $(ARCHIVE)
+	bench/run
+
+test:
+	.ci/run
+
+install: $(ARCHIVE) $(PROGRAM)
+	install -d $(DESTDIR)$(PREFIX)/include $(DESTDIR)$(PREFIX)/lib/pkgconfig $(DESTDIR)$(PREFIX)/bin \
+	    $(DESTDIR)$(PREFIX)/share/man/man1 $(DESTDIR)$(PREFIX)/share/doc/enfysgar
+	install -m 644 include/enfysgar.h $(DESTDIR)$(PREFIX)/include/
+	install -m 644 $(ARCHIVE) $(DESTDIR)$(PREFIX)/lib/
+	install -m 755 $(PROGRAM) $(DESTDIR)$(PREFIX)/bin/
+	install -m 644 packaging/run_day.1 $(DESTDIR)$(PREFIX)/share/man/man1/
+	install -m 644 NOTICE $(DESTDIR)$(PREFIX)/share/doc/enfysgar/
+	sed -e 's|@PREFIX@|$(PREFIX)|' -e 's|@VERSION@|$(VERSION)|' packaging/enfysgar.pc.in \
+	    >$(DESTDIR)$(PREFIX)/lib/pkgconfig/enfysgar.pc
+
+clean:
+	rm -rf build
