@@ -115,8 +115,8 @@ int one_in(unsigned n)
 uint64_t edge(void)
 {
     static const uint64_t ends[] = {
-        0, 12, 23, 24, 28, 30, 31, 59, 60, 96, 999999, 1000000, 1900, 2000, 2100, 15020, 51544, 88433,
-        86400000000, 137438953472, 3155760000000000, INT32_MAX, UINT32_MAX, INT64_MAX, UINT64_MAX,
+        0, 12, 23, 24, 28, 30, 31, 59, 60, RUN_RECORDS, 999999, 1000000, FIRST_YEAR, 2000, LAST_YEAR, FIRST_DAY, 51544,
+        LAST_DAY, DAY_MICROS, MARK, 3155760000000000, INT32_MAX, UINT32_MAX, INT64_MAX, UINT64_MAX,
     };
     uint64_t near = below(5) - 2;
 
@@ -138,15 +138,15 @@ int64_t some_day(void)
 {
     switch (below(16)) {
     case 0:
-        return 15020 + between(-3, 3);
+        return FIRST_DAY + between(-3, 3);
     case 1:
-        return 88433 + between(-3, 3);
+        return LAST_DAY + between(-3, 3);
     case 2:
         return (int64_t)edge();
     case 3:
         return 51544 + between(-3, 3);
     default:
-        return between(15020, 88433);
+        return between(FIRST_DAY, LAST_DAY);
     }
 }
 
@@ -156,15 +156,15 @@ uint64_t some_micros(void)
     case 0:
         return below(3);
     case 1:
-        return UINT64_C(86400000000) - 2 + below(4);
+        return DAY_MICROS - 2 + below(4);
     case 2:
         return edge();
     case 3:
-        return UINT64_C(43200000000) - 2 + below(4);
+        return DAY_MICROS / 2 - 2 + below(4);
     case 4:
         return below(86400) * 1000000;
     default:
-        return below(UINT64_C(86400000000));
+        return below(DAY_MICROS);
     }
 }
 

@@ -25,6 +25,16 @@ extern int model_mistake;
 #define MISTAKE(n, right, wrong) (model_mistake == (n) ? (wrong) : (right))
 #endif
 
+/* The limits and sizes of the rules. */
+#define FIRST_YEAR 1900
+#define LAST_YEAR 2100
+#define FIRST_DAY INT64_C(15020)
+#define LAST_DAY INT64_C(88433)
+#define DAY_MICROS UINT64_C(86400000000)
+#define MARK UINT64_C(137438953472)
+#define RECORD_BYTES 30
+#define RUN_RECORDS 96
+
 struct date {
     uint64_t year, month, day;
 };

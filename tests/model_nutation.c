@@ -6,7 +6,7 @@
 
 #include <math.h>
 
-#define DAY_MICROS INT64_C(86400000000)
+#define DAY ((int64_t)DAY_MICROS)
 
 /* Day, amplitudes XC and XS, uncertainty; the last three in hundredths of a microarcsecond. */
 static const struct {
@@ -61,7 +61,7 @@ static int row_before(struct instant at)
 
 void model_nutation(struct instant at, double offset[2])
 {
-    double date = (double)at.day + (double)at.micros / (double)DAY_MICROS;
+    double date = (double)at.day + (double)at.micros / (double)DAY;
     double phi = 2.0 * 3.14159265358979323846 / MISTAKE(32, -430.21, 430.21) * (date - 51544.5);
     int i = row_before(at);
     double xc, xs;
@@ -93,12 +93,12 @@ uint64_t model_uncertainty(struct instant at)
         int64_t days = i < 0 ? row[0].day - at.day : at.day - row[i].day;
         int64_t micros = i < 0 ? -(int64_t)at.micros : (int64_t)at.micros;
 
-        above = (__int128)20 * row[i < 0 ? 0 : i].error * DAY_MICROS + (__int128)265 * (days * DAY_MICROS + micros);
-        below = DAY_MICROS;
+        above = (__int128)20 * row[i < 0 ? 0 : i].error * DAY + (__int128)265 * (days * DAY + micros);
+        below = DAY;
     } else {
-        int64_t since = (at.day - row[i].day) * DAY_MICROS + (int64_t)at.micros;
+        int64_t since = (at.day - row[i].day) * DAY + (int64_t)at.micros;
 
-        below = (__int128)(row[i + 1].day - row[i].day) * DAY_MICROS;
+        below = (__int128)(row[i + 1].day - row[i].day) * DAY;
         above = 20 * (row[i].error * below + (__int128)(row[i + 1].error - row[i].error) * since);
         if (above < 0)
             above = -above;

@@ -1,10 +1,6 @@
 /* Records and runs. */
 #include "model.h"
 
-#define SIZE 30
-#define LAST_DAY 88433
-#define DAY_MICROS UINT64_C(86400000000)
-
 static void put(uint8_t *at, int bytes, uint64_t x)
 {
     for (int i = bytes; i-- > 0; x >>= 8)
@@ -44,9 +40,9 @@ uint32_t model_write(const struct record *record, uint8_t *buffer, size_t length
 
     if (refusal)
         return refusal;
-    if (length < SIZE)
+    if (length < RECORD_BYTES)
         return 12;
-    put(buffer, 2, SIZE);
+    put(buffer, 2, RECORD_BYTES);
     put(buffer + 2, 2, 0x0100);
     put(buffer + 4, 4, (uint64_t)split.day);
     put(buffer + 8, 8, split.micros);
@@ -62,11 +58,11 @@ uint32_t model_read(const uint8_t *bytes, size_t length, struct record *record)
     uint32_t refusal;
 
     *record = (struct record){{0, 0}, {0, 0, 0}};
-    if (length < MISTAKE(43, SIZE, SIZE + 1))
+    if (length < (size_t)MISTAKE(43, RECORD_BYTES, RECORD_BYTES + 1))
         return 12;
     if (bytes[2] != 1)
         return 14;
-    if (get(bytes, 2) != SIZE)
+    if (get(bytes, 2) != RECORD_BYTES)
         return MISTAKE(44, 13, 14);
     if (bytes[3] != 0)
         return 15;
@@ -92,7 +88,7 @@ uint32_t model_run_refusal(struct instant start, uint64_t count, uint64_t step, 
 {
     uint32_t refusal;
 
-    if (count < 1 || count > MISTAKE(51, 96, 97))
+    if (count < 1 || count > (uint64_t)MISTAKE(51, RUN_RECORDS, RUN_RECORDS + 1))
         return 17;
     if (step < 1 || step > DAY_MICROS)
         return 18;
@@ -101,7 +97,7 @@ uint32_t model_run_refusal(struct instant start, uint64_t count, uint64_t step, 
         return refusal;
     if (model_run_instant(start, count - MISTAKE(52, 1, 0), step).day > LAST_DAY)
         return 8;
-    if (length < SIZE * count)
+    if (length < RECORD_BYTES * count)
         return 12;
     return 0;
 }

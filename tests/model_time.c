@@ -1,13 +1,6 @@
 /* Calendar, instants and clock words. */
 #include "model.h"
 
-#define FIRST_YEAR 1900
-#define LAST_YEAR 2100
-#define FIRST_DAY 15020
-#define LAST_DAY 88433
-#define DAY_MICROS 86400000000u
-#define MARK 137438953472u
-
 static int month_length(int year, int month)
 {
     static const int length[12] = {31, 28, 31, 30, 31, 30, 31, 31, 30, 31, 30, 31};
@@ -17,7 +10,7 @@ static int month_length(int year, int month)
 }
 
 /* Every date in turn, one day after another: the calendar as one counts it by hand. */
-static struct date date_at[LAST_DAY - FIRST_DAY + 500];
+static struct date date_at[LAST_DAY - FIRST_DAY + 500 /* room for a mistake */];
 static int64_t day_at[LAST_YEAR - FIRST_YEAR + 1][13][32];
 
 static void count_days(void)

@@ -7,11 +7,11 @@
 
 static void date(uint64_t y, uint64_t m, uint64_t d)
 {
-    int64_t day;
-    uint32_t refusal = model_day_of_date((struct date){y, m, d}, &day);
+    int64_t want;
+    uint32_t refusal = model_day_of_date((struct date){y, m, d}, &want);
 
     SAME_U(enfys_date_refusal(y, m, d), refusal, DATE);
-    SAME_I(enfys_date_to_day(y, m, d), day, DATE);
+    SAME_I(enfys_date_to_day(y, m, d), want, DATE);
 }
 
 static void day(int64_t n)
@@ -28,7 +28,7 @@ static void day(int64_t n)
 /* Each day from 1900 to 2100: there, back, and the date's neighbours. */
 static void every_day(void)
 {
-    for (int64_t n = 15020; n <= 88433; n++) {
+    for (int64_t n = FIRST_DAY; n <= LAST_DAY; n++) {
         uint64_t y = enfys_day_to_year(n), m = enfys_day_to_month(n), d = enfys_day_to_day_of_month(n);
 
         day(n);
@@ -76,7 +76,7 @@ static void reference(void)
 static void random_inputs(void)
 {
     for (int i = 0; i < 400000; i++) {
-        uint64_t y = one_in(3) ? edge() : (uint64_t)between(1898, 2102);
+        uint64_t y = one_in(3) ? edge() : (uint64_t)between(FIRST_YEAR - 2, LAST_YEAR + 2);
         uint64_t m = one_in(3) ? edge() : below(14);
         uint64_t d = one_in(3) ? edge() : below(33);
 

@@ -3,8 +3,6 @@
 #include "check.h"
 #include "model.h"
 
-#define MARK UINT64_C(137438953472)
-#define DAY_MICROS UINT64_C(86400000000)
 #define INSTANT "day %" PRId64 ", micros %" PRIu64, day, micros
 #define WORDS "day word %" PRId64 ", time word %" PRIu64, d, t
 
@@ -54,7 +52,7 @@ static void torn(int64_t day, int64_t apart, uint64_t micros)
 /* All days: there and back, torn reads up to seven days apart. */
 static void every_day(void)
 {
-    for (int64_t day = 15020; day <= 88433; day++) {
+    for (int64_t day = FIRST_DAY; day <= LAST_DAY; day++) {
         uint64_t micros = some_micros() % DAY_MICROS;
 
         split(day, micros);
@@ -70,11 +68,11 @@ static void every_mark(void)
 {
     static const uint64_t micros[] = {0, 1, DAY_MICROS - 1, DAY_MICROS, DAY_MICROS + 1, MARK - 1};
 
-    for (int64_t day = 15010; day < 15040; day++)
+    for (int64_t day = FIRST_DAY - 10; day < FIRST_DAY + 20; day++)
         for (uint64_t mark = 0; mark < 64; mark++)
             for (size_t i = 0; i < sizeof micros / sizeof *micros; i++) {
                 join(day, mark * MARK + micros[i]);
-                join(day + 73400, mark * MARK + micros[i]);
+                join(day + LAST_DAY - FIRST_DAY, mark * MARK + micros[i]);
                 join(day, (UINT64_MAX / MARK - mark) * MARK + micros[i]);
                 join(day, ((uint64_t)day % 8 + (UINT64_C(1) << mark % 27)) * MARK + micros[i]);
             }

@@ -19,8 +19,8 @@ static void instant(const uint64_t f[7])
     SAME_U(enfys_instant_micros(ALL), want.micros, FIELDS);
 }
 
-static const uint64_t last[7] = {2100, 12, 31, 23, 59, 59, 999999};
-static const uint64_t first[7] = {1900, 1, 1, 0, 0, 0, 0};
+static const uint64_t last[7] = {LAST_YEAR, 12, 31, 23, 59, 59, 999999};
+static const uint64_t first[7] = {FIRST_YEAR, 1, 1, 0, 0, 0, 0};
 
 static void good(uint64_t f[7])
 {
@@ -45,7 +45,7 @@ static void reference(void)
 /* Every choice of wrong fields among the seven: the first wrong one is named. */
 static void orders(void)
 {
-    static const uint64_t wrong[7] = {2101, 13, 32, 24, 60, 60, 1000000};
+    static const uint64_t wrong[7] = {LAST_YEAR + 1, 13, 32, 24, 60, 60, 1000000};
 
     for (int round = 0; round < 200; round++)
         for (unsigned choice = 0; choice < 128; choice++) {

@@ -7,7 +7,6 @@
 #include <stdio.h>
 
 #define INSTANT "day %" PRId64 ", micros %" PRIu64, day, micros
-#define DAY_MICROS UINT64_C(86400000000)
 
 /* 2, and room for the model's own rounding: angles of some hundred radians, offsets to 400000. */
 #define DISTANCE 2.000001
@@ -62,10 +61,10 @@ static void around_rows(void)
     }
     for (int64_t near = -2; near <= 2; near++)
         for (uint64_t m = 0; m < 3; m++) {
-            nutation(15020 + near, m);
-            nutation(15020 + near, DAY_MICROS - 2 + m);
-            nutation(88433 + near, m);
-            nutation(88433 + near, DAY_MICROS - 2 + m);
+            nutation(FIRST_DAY + near, m);
+            nutation(FIRST_DAY + near, DAY_MICROS - 2 + m);
+            nutation(LAST_DAY + near, m);
+            nutation(LAST_DAY + near, DAY_MICROS - 2 + m);
         }
 }
 
@@ -76,7 +75,7 @@ int main(int argc, char **argv)
     begin("nutation", argc, argv);
     reference();
     around_rows();
-    for (int64_t day = 15020; day <= 88433; day++)
+    for (int64_t day = FIRST_DAY; day <= LAST_DAY; day++)
         nutation(day, 0);
     for (int i = 0; i < 100000; i++)
         nutation(between(45600, 56400), below(DAY_MICROS));

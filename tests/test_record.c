@@ -6,9 +6,7 @@
 #include <stdio.h>
 #include <string.h>
 
-#define SIZE 30
 #define LONGEST 100
-#define MARK UINT64_C(137438953472)
 
 /* A block for each length, each ending where unmapped memory begins. */
 static uint8_t *block[LONGEST + 1];
@@ -66,13 +64,13 @@ static uint32_t read_one(size_t length)
     if (memcmp(bytes, before, length) != 0)
         differs("enfys_record_..", text_bytes(bytes, length), text_bytes(before, length), "reading changed a byte");
     if (refusal == 0) { /* written again, it is the same record */
-        uint8_t again[SIZE];
+        uint8_t again[RECORD_BYTES];
 
         SAME_U(enfys_record_write(enfys_record_day(bytes, length), enfys_record_micros(bytes, length),
                                   enfys_record_ut1(bytes, length), enfys_record_lod(bytes, length),
-                                  enfys_record_rate(bytes, length), again, SIZE), 0, BYTES);
-        if (memcmp(again, bytes, SIZE) != 0)
-            differs("enfys_record_write", text_bytes(again, SIZE), text_bytes(bytes, SIZE), "a record written again");
+                                  enfys_record_rate(bytes, length), again, RECORD_BYTES), 0, BYTES);
+        if (memcmp(again, bytes, RECORD_BYTES) != 0)
+            differs("enfys_record_write", text_bytes(again, RECORD_BYTES), text_bytes(bytes, RECORD_BYTES), "a record written again");
     }
     return refusal;
 }
@@ -120,10 +118,10 @@ static void damage(uint8_t *bytes)
 
     switch (below(8)) {
     case 0: /* one bit */
-        bytes[below(SIZE)] ^= (uint8_t)(1u << below(8));
+        bytes[below(RECORD_BYTES)] ^= (uint8_t)(1u << below(8));
         break;
     case 1: /* one byte */
-        bytes[below(SIZE)] = (uint8_t)any();
+        bytes[below(RECORD_BYTES)] = (uint8_t)any();
         break;
     case 2: /* the head: length, version, byte 3 */
         bytes[below(4)] = (uint8_t)below(40);
@@ -147,7 +145,7 @@ static void damage(uint8_t *bytes)
         }
         break;
     case 6:
-        fill(bytes, SIZE);
+        fill(bytes, RECORD_BYTES);
         break;
     default: /* the last bit of the sum */
         bytes[29] ^= 1;
@@ -156,20 +154,20 @@ static void damage(uint8_t *bytes)
 
 static void reference(void)
 {
-    static const uint8_t want[SIZE] = {
+    static const uint8_t want[RECORD_BYTES] = {
         0x00, 0x1E, 0x01, 0x00, 0x00, 0x00, 0xD4, 0xC1, 0x00, 0x00, 0x00, 0x20, 0x00, 0x00, 0x00,
         0x00, 0x00, 0x00, 0x00, 0x01, 0xFF, 0xFF, 0xFF, 0xFF, 0x00, 0x00, 0x00, 0x00, 0x2A, 0x02,
     };
-    uint8_t *bytes = block[SIZE];
+    uint8_t *bytes = block[RECORD_BYTES];
 
-    SAME_U(enfys_record_write(54465, 0, 1, -1, 0, bytes, SIZE), 0, "the record of day 54465");
-    if (memcmp(bytes, want, SIZE) != 0)
-        differs("enfys_record_write", text_bytes(bytes, SIZE), text_bytes(want, SIZE), "the record of day 54465");
-    read_one(SIZE);
+    SAME_U(enfys_record_write(54465, 0, 1, -1, 0, bytes, RECORD_BYTES), 0, "the record of day 54465");
+    if (memcmp(bytes, want, RECORD_BYTES) != 0)
+        differs("enfys_record_write", text_bytes(bytes, RECORD_BYTES), text_bytes(want, RECORD_BYTES), "the record of day 54465");
+    read_one(RECORD_BYTES);
     /* Each single bit is missed. */
-    for (unsigned bit = 0; bit < 8 * SIZE; bit++) {
+    for (unsigned bit = 0; bit < 8 * RECORD_BYTES; bit++) {
         bytes[bit / 8] ^= (uint8_t)(1u << bit % 8);
-        if (read_one(SIZE) == 0)
+        if (read_one(RECORD_BYTES) == 0)
             differs("enfys_record_refusal", "0", "a refusal", "bit %u of the record of day 54465 changed", bit);
         bytes[bit / 8] ^= (uint8_t)(1u << bit % 8);
     }
@@ -192,7 +190,7 @@ int main(int argc, char **argv)
         write_one(&r, some_length());
     }
     for (int i = 0; i < 300000; i++) {
-        size_t length = SIZE + (one_in(2) ? 0 : below(LONGEST - SIZE + 1));
+        size_t length = RECORD_BYTES + (one_in(2) ? 0 : below(LONGEST - RECORD_BYTES + 1));
 
         place(length);
         if (one_in(4))
@@ -202,7 +200,7 @@ int main(int argc, char **argv)
         if (one_in(2))
             mend_sum(block[length]);
         if (one_in(8)) { /* the same bytes, too few of them */
-            size_t fewer = below(SIZE);
+            size_t fewer = below(RECORD_BYTES);
 
             memcpy(block[fewer], block[length], fewer);
             length = fewer;

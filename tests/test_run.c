@@ -5,15 +5,12 @@
 
 #include <string.h>
 
-#define SIZE 30
-#define MOST 96
 #define BEFORE 64
 #define BEHIND 64
-#define DAY_MICROS UINT64_C(86400000000)
 #define RUN "day %" PRId64 ", micros %" PRIu64 ", count %" PRIu64 ", step %" PRIu64 ", length %zu"
 #define OF_RUN start.day, start.micros, count, step, length
 
-static uint8_t space[BEFORE + MOST * SIZE + BEHIND], before[sizeof space];
+static uint8_t space[BEFORE + RUN_RECORDS * RECORD_BYTES + BEHIND], before[sizeof space];
 
 static void untouched(size_t from, size_t to, struct instant start, uint64_t count, uint64_t step, size_t length)
 {
@@ -30,7 +27,7 @@ static void records(struct instant start, uint64_t count, uint64_t step, size_t 
         struct instant at = model_run_instant(start, MISTAKE(53, k, 0), step);
         struct record got;
 
-        uint32_t refusal = model_read(space + BEFORE + SIZE * k, SIZE, &got);
+        uint32_t refusal = model_read(space + BEFORE + RECORD_BYTES * k, RECORD_BYTES, &got);
 
         if (refusal != 0)
             differs("reading a record of the run", text_u64(refusal), "0", RUN ", record %" PRIu64, OF_RUN, k);
@@ -48,7 +45,7 @@ static void records(struct instant start, uint64_t count, uint64_t step, size_t 
 static uint32_t run(struct instant start, uint64_t count, uint64_t step, size_t length)
 {
     uint32_t refusal = model_run_refusal(start, count, step, length);
-    size_t filled = refusal ? 0 : SIZE * (size_t)count;
+    size_t filled = refusal ? 0 : RECORD_BYTES * (size_t)count;
 
     for (size_t i = 0; i < sizeof space; i += 8) {
         uint64_t x = any();
@@ -69,15 +66,15 @@ static void orders(void)
 {
     for (int round = 0; round < 300; round++)
         for (unsigned wrong = 1; wrong < 64; wrong++) {
-            uint64_t count = wrong & 1 ? (one_in(3) ? 0 : one_in(2) ? 97 : edge() | 128) : 1 + below(MOST);
+            uint64_t count = wrong & 1 ? (one_in(3) ? 0 : one_in(2) ? 97 : edge() | 128) : 1 + below(RUN_RECORDS);
             uint64_t step = wrong & 2 ? (one_in(3) ? 0 : DAY_MICROS + 1 + (any() >> 1 >> below(63))) : 1 + below(DAY_MICROS);
-            struct instant start = {between(15020, 88300), below(DAY_MICROS)};
-            size_t length = wrong & 32 ? below(count < 1 || count > MOST ? SIZE : SIZE * count) : MOST * SIZE;
+            struct instant start = {between(FIRST_DAY, LAST_DAY - 133), below(DAY_MICROS)};
+            size_t length = wrong & 32 ? below(count < 1 || count > RUN_RECORDS ? RECORD_BYTES : RECORD_BYTES * count) : RUN_RECORDS * RECORD_BYTES;
 
             if (wrong & 16)
-                start.day = 88433;
+                start.day = LAST_DAY;
             if (wrong & 4)
-                start.day = one_in(2) ? 15019 - (int64_t)(any() >> 1 >> below(63)) : 88434 + (int64_t)below(1000);
+                start.day = one_in(2) ? FIRST_DAY - 1 - (int64_t)(any() >> 1 >> below(63)) : LAST_DAY + 1 + (int64_t)below(1000);
             if (wrong & 8)
                 start.micros = DAY_MICROS + below(1000);
             run(start, count, step, length);
@@ -88,17 +85,17 @@ static void orders(void)
 static void last_instants(void)
 {
     for (int i = 0; i < 300; i++) {
-        uint64_t count = 1 + below(MOST), step = 1 + (any() >> below(64)) % DAY_MICROS;
+        uint64_t count = 1 + below(RUN_RECORDS), step = 1 + (any() >> below(64)) % DAY_MICROS;
         uint64_t span = (count - 1) * step;
-        /* start so that the last instant is the last microsecond of day 88433 */
+        /* start so that the last instant is the last microsecond of the last day */
         uint64_t back = span + 1;
-        struct instant start = {88434 - (int64_t)((back + DAY_MICROS - 1) / DAY_MICROS), 0};
+        struct instant start = {LAST_DAY + 1 - (int64_t)((back + DAY_MICROS - 1) / DAY_MICROS), 0};
 
-        start.micros = (uint64_t)(88434 - start.day) * DAY_MICROS - back;
-        if (run(start, count, step, MOST * SIZE) != 0)
+        start.micros = (uint64_t)(LAST_DAY + 1 - start.day) * DAY_MICROS - back;
+        if (run(start, count, step, RUN_RECORDS * RECORD_BYTES) != 0)
             differs("enfys_run_write", "a refusal", "0", "count %" PRIu64 ", step %" PRIu64, count, step);
         start = model_run_instant(start, 1, 1);
-        if (run(start, count, step, MOST * SIZE) != 8)
+        if (run(start, count, step, RUN_RECORDS * RECORD_BYTES) != 8)
             differs("enfys_run_write", "another number", "8", "count %" PRIu64 ", step %" PRIu64, count, step);
     }
 }
@@ -132,9 +129,9 @@ int main(int argc, char **argv)
     orders();
     last_instants();
     for (int i = 0; i < 8000; i++) {
-        uint64_t count = one_in(8) ? MOST : 1 + below(one_in(4) ? MOST : 12);
+        uint64_t count = one_in(8) ? RUN_RECORDS : 1 + below(one_in(4) ? RUN_RECORDS : 12);
         uint64_t step = one_in(4) ? edge() : 1 + (any() >> below(64)) % DAY_MICROS;
-        size_t length = one_in(2) ? SIZE * (size_t)count : below(MOST * SIZE + 1);
+        size_t length = one_in(2) ? RECORD_BYTES * (size_t)count : below(RUN_RECORDS * RECORD_BYTES + 1);
 
         run((struct instant){some_day(), some_micros()}, one_in(16) ? edge() : count, step, length);
     }

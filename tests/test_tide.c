@@ -65,7 +65,7 @@ static void constituents(void)
         {0, 1, 0, -1, 0, 0}, {0, 0, 2, 0, 0, 0},  {0, 0, 1, 0, 0, -1}, {0, 0, 0, 0, 1, 0},  {3, 0, 0, 0, 0, 0},
         {-12, -12, -12, -12, -12, -12}, {12, 12, 12, 12, 12, 12},
     };
-    static const int64_t day[] = {15020, 15021, 51543, 51544, 51545, 54465, 55007, 88432, 88433};
+    static const int64_t day[] = {FIRST_DAY, FIRST_DAY + 1, 51543, 51544, 51545, 54465, 55007, LAST_DAY - 1, LAST_DAY};
     static const uint64_t micros[] = {0, 1, 43199999999, 43200000000, 43200000001, 86399999998, 86399999999};
 
     for (size_t i = 0; i < sizeof day / sizeof *day; i++)
@@ -89,7 +89,7 @@ static void random_inputs(void)
 
     for (int i = 0; i < 1050000; i++) {
         some_multipliers(k);
-        tide(between(15020, 88433), below(UINT64_C(86400000000)), k);
+        tide(between(FIRST_DAY, LAST_DAY), below(DAY_MICROS), k);
     }
     for (int i = 0; i < 300000; i++) {
         some_multipliers(k);

@@ -50,16 +50,16 @@ static void reference(void)
 /* Both ends of the range and the microseconds around midnights, noons and J2000. */
 static void edges(void)
 {
-    static const int64_t day[] = {15019, 15020, 15021, 51543, 51544, 51545, 88432, 88433, 88434};
+    static const int64_t day[] = {FIRST_DAY - 1, FIRST_DAY, FIRST_DAY + 1, 51543, 51544, 51545, LAST_DAY - 1, LAST_DAY, LAST_DAY + 1};
 
     for (size_t i = 0; i < sizeof day / sizeof *day; i++)
         for (uint64_t m = 0; m < 4; m++) {
             zonal(day[i], m);
-            zonal(day[i], UINT64_C(43199999998) + m);
-            zonal(day[i], UINT64_C(86399999998) + m);
+            zonal(day[i], DAY_MICROS / 2 - 2 + m);
+            zonal(day[i], DAY_MICROS - 2 + m);
         }
-    for (int64_t d = 15020; d < 88433; d += 7) {
-        zonal(d, UINT64_C(86399999999));
+    for (int64_t d = FIRST_DAY; d < LAST_DAY; d += 7) {
+        zonal(d, DAY_MICROS - 1);
         zonal(d + 1, 0);
     }
 }
@@ -72,7 +72,7 @@ int main(int argc, char **argv)
     reference();
     edges();
     for (int i = 0; i < 100000; i++)
-        zonal(between(15020, 88433), below(UINT64_C(86400000000)));
+        zonal(between(FIRST_DAY, LAST_DAY), below(DAY_MICROS));
     for (int i = 0; i < 50000; i++)
         zonal(some_day(), some_micros());
     for (int i = 0; i < 200000; i++)
