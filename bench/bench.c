@@ -11,7 +11,8 @@
 #include <time.h>
 
 #define INPUTS 1024
-#define ROUNDS 7
+#define ROUNDS 25
+#define STEP 900000000
 
 static struct instant at[INPUTS];
 static int64_t multiplier[INPUTS][6];
@@ -21,54 +22,108 @@ static uint8_t run[96 * 30];
 /* What the timed calls give is added up here, so that no call can be left out. */
 static volatile double sink;
 
-/* A pass makes one call, or one group of calls, for each input, and returns a sum of the answers. */
-typedef double pass(void);
+/* What is timed: one call, or one group of calls, for input i. It returns a number that depends on the answers. */
+typedef double work(int i);
 
-#define PASS(name, ...)                        \
-    static double name(void)                   \
-    {                                          \
-        double sum = 0.0;                      \
-        for (int i = 0; i < INPUTS; i++) {     \
-            int64_t d = at[i].day;             \
-            uint64_t m = at[i].micros;         \
-            (void)d, (void)m;                  \
-            __VA_ARGS__                        \
-        }                                      \
-        return sum;                            \
-    }
+static double phase(int i)
+{
+    const int64_t *k = multiplier[i];
 
-PASS(phase, const int64_t *k = multiplier[i];
-     sum += enfys_tide_phase(d, m, k[0], k[1], k[2], k[3], k[4], k[5]);)
-PASS(phase_plain, sum += model_tide_refusal(at[i], multiplier[i]) ? 0.0 : model_phase(at[i], multiplier[i]);)
+    return enfys_tide_phase(at[i].day, at[i].micros, k[0], k[1], k[2], k[3], k[4], k[5]);
+}
 
-PASS(zonal, sum += enfys_run_write(d, m, 1, 1, run, 30);
-     sum += enfys_record_ut1(run, 30) + enfys_record_lod(run, 30) + enfys_record_rate(run, 30);)
-PASS(zonal_one, sum += enfys_zonal_ut1(d, m);)
-PASS(zonal_plain, double number[3]; model_zonal(at[i], number); sum += number[0] + number[1] + number[2];)
+static double phase_plain(int i)
+{
+    return model_tide_refusal(at[i], multiplier[i]) ? 0.0 : model_phase(at[i], multiplier[i]);
+}
 
-PASS(nutation, sum += (double)(enfys_nutation_x(d, m) + enfys_nutation_y(d, m));)
-PASS(nutation_plain, double offset[2]; model_nutation(at[i], offset); sum += offset[0] + offset[1];)
+static double corrections(int i)
+{
+    double refusal = enfys_run_write(at[i].day, at[i].micros, 1, 1, run, 30);
 
-PASS(date, (void)m; sum += (double)(enfys_day_to_year(d) + enfys_day_to_month(d) + enfys_day_to_day_of_month(d));)
+    return refusal + enfys_record_ut1(run, 30) + enfys_record_lod(run, 30) + enfys_record_rate(run, 30);
+}
 
-PASS(write_one, sum += enfys_record_write(d, m, i, -i, i * i, record[i], 30);)
-PASS(write_plain, struct record r = {at[i], {i, -i, i * i}}; sum += model_write(&r, record[i], 30);)
-PASS(read_one, const uint8_t *b = record[i];
-     sum += enfys_record_refusal(b, 30) + (double)enfys_record_day(b, 30) + (double)enfys_record_micros(b, 30);
-     sum += enfys_record_ut1(b, 30) + enfys_record_lod(b, 30) + enfys_record_rate(b, 30);)
-PASS(read_plain, struct record r; sum += model_read(record[i], 30, &r);
-     sum += (double)r.at.day + (double)r.at.micros + r.number[0] + r.number[1] + r.number[2];)
+static double ut1(int i)
+{
+    return enfys_zonal_ut1(at[i].day, at[i].micros);
+}
 
-PASS(run_96, if (i % 32 == 0) sum += enfys_run_write(d - 100, m, 96, 900000000, run, sizeof run);)
-PASS(run_plain, if (i % 32 == 0) for (uint64_t k = 0; k < 96; k++) {
-    struct record r = {model_run_instant((struct instant){d - 100, m}, k, 900000000), {0, 0, 0}};
+static double corrections_plain(int i)
+{
     double number[3];
 
-    model_zonal(r.at, number);
-    for (int n = 0; n < 3; n++)
-        r.number[n] = (int32_t)number[n];
-    sum += model_write(&r, run + 30 * k, 30);
-})
+    model_zonal(at[i], number);
+    return number[0] + number[1] + number[2];
+}
+
+static double offsets(int i)
+{
+    return (double)(enfys_nutation_x(at[i].day, at[i].micros) + enfys_nutation_y(at[i].day, at[i].micros));
+}
+
+static double offsets_plain(int i)
+{
+    double offset[2];
+
+    model_nutation(at[i], offset);
+    return offset[0] + offset[1];
+}
+
+static double date(int i)
+{
+    int64_t day = at[i].day;
+
+    return (double)(enfys_day_to_year(day) + enfys_day_to_month(day) + enfys_day_to_day_of_month(day));
+}
+
+static double written(int i)
+{
+    return enfys_record_write(at[i].day, at[i].micros, i, -i, 7 * i, record[i], 30);
+}
+
+static double written_plain(int i)
+{
+    struct record r = {at[i], {i, -i, 7 * i}};
+
+    return model_write(&r, record[i], 30);
+}
+
+static double read_back(int i)
+{
+    const uint8_t *b = record[i];
+
+    return enfys_record_refusal(b, 30) + (double)enfys_record_day(b, 30) + (double)enfys_record_micros(b, 30) +
+           enfys_record_ut1(b, 30) + enfys_record_lod(b, 30) + enfys_record_rate(b, 30);
+}
+
+static double read_back_plain(int i)
+{
+    struct record r;
+    uint32_t refusal = model_read(record[i], 30, &r);
+
+    return refusal + (double)r.at.day + (double)r.at.micros + r.number[0] + r.number[1] + r.number[2];
+}
+
+static double run_96(int i)
+{
+    return enfys_run_write(at[i].day, at[i].micros, 96, STEP, run, sizeof run);
+}
+
+static double run_96_plain(int i)
+{
+    double refusals = 0.0, number[3];
+
+    for (uint64_t k = 0; k < 96; k++) {
+        struct record r = {model_run_instant(at[i], k, STEP), {0, 0, 0}};
+
+        model_zonal(r.at, number);
+        for (int n = 0; n < 3; n++)
+            r.number[n] = (int32_t)number[n];
+        refusals += model_write(&r, run + 30 * k, 30);
+    }
+    return refusals;
+}
 
 /* The year, month and day of a day number by whole-number arithmetic on years that start in March. */
 static struct date date_plain_of(int64_t day)
@@ -83,7 +138,12 @@ static struct date date_plain_of(int64_t day)
     return (struct date){era * 400 + year_of_era + (month <= 2), month, of_year - (153 * month_from_march + 2) / 5 + 1};
 }
 
-PASS(date_plain, struct date x = date_plain_of(d); (void)m; sum += (double)(x.year + x.month + x.day);)
+static double date_plain(int i)
+{
+    struct date x = date_plain_of(at[i].day);
+
+    return (double)(x.year + x.month + x.day);
+}
 
 static double now(void)
 {
@@ -93,33 +153,33 @@ static double now(void)
     return (double)t.tv_sec * 1e9 + (double)t.tv_nsec;
 }
 
-/* Nanoseconds of a pass: as many passes as fill ten milliseconds, divided. */
-static double time_of(pass *p)
+/* Nanoseconds of one piece of work: as much of it as fills ten milliseconds, divided. */
+static double time_of(work *w)
 {
-    double start = now(), end;
-    int passes = 0;
+    double start = now(), end, sum = 0.0;
+    int i = 0, done = 0;
 
     do {
-        sink = sink + p();
-        passes++;
+        for (int n = 0; n < 64; n++, done++, i = (i + 1) % INPUTS)
+            sum += w(i);
         end = now();
     } while (end - start < 1e7);
-    return (end - start) / passes;
+    sink = sum;
+    return (end - start) / done;
 }
 
 /* The best of some rounds, the two taking turns, so that both meet the same conditions. */
-static void row(const char *what, pass *ours, pass *plain, double in_a_pass)
+static void row(const char *what, work *ours, work *plain)
 {
     double a = 1e300, b = 1e300;
 
-    time_of(ours);
     for (int i = 0; i < ROUNDS; i++) {
         double x = time_of(ours), y = time_of(plain);
 
         a = x < a ? x : a;
         b = y < b ? y : b;
     }
-    printf("%-52s %10.1f %10.1f %8.2f\n", what, a / in_a_pass, b / in_a_pass, a / b);
+    printf("%-52s %10.1f %10.1f %8.2f\n", what, a, b, a / b);
 }
 
 static uint64_t next(void)
@@ -146,13 +206,13 @@ int main(void)
             return 1;
     }
     printf("%-52s %10s %10s %8s\n", "", "ours, ns", "plain, ns", "ratio");
-    row("tidal phase", phase, phase_plain, INPUTS);
-    row("three corrections (run of one record, read)", zonal, zonal_plain, INPUTS);
-    row("UT1 alone, against three sums", zonal_one, zonal_plain, INPUTS);
-    row("nutation X and Y (two calls)", nutation, nutation_plain, INPUTS);
-    row("day to date (three calls)", date, date_plain, INPUTS);
-    row("record written", write_one, write_plain, INPUTS);
-    row("record read (six calls), against one reading", read_one, read_plain, INPUTS);
-    row("run of 96 records", run_96, run_plain, INPUTS / 32);
+    row("tidal phase", phase, phase_plain);
+    row("three corrections (run of one record, read)", corrections, corrections_plain);
+    row("UT1 alone, against three sums", ut1, corrections_plain);
+    row("nutation X and Y (two calls)", offsets, offsets_plain);
+    row("day to date (three calls)", date, date_plain);
+    row("record written", written, written_plain);
+    row("record read (six calls), against one reading", read_back, read_back_plain);
+    row("run of 96 records", run_96, run_96_plain);
     return 0;
 }

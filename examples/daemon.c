@@ -93,9 +93,10 @@ static int serve(int64_t day, uint64_t micros)
     int32_t lod = enfys_record_lod(record, sizeof record);
     int32_t rate = enfys_record_rate(record, sizeof record);
 
-    printf("  zonal tides: UT1 %" PRId32 " ns, length of day %" PRId32 " ps, rate %" PRId32 "e-20 rad/s\n", ut1, lod, rate);
-    printf("  nutation: X %" PRId64 " nas, Y %" PRId64 " nas, uncertainty %" PRIu64 " nas\n", enfys_nutation_x(day, micros),
-           enfys_nutation_y(day, micros), enfys_nutation_uncertainty(day, micros));
+    printf("  zonal tides: UT1 %" PRId32 " ns, length of day %" PRId32 " ps, rate %" PRId32 "e-20 rad/s\n", ut1, lod,
+           rate);
+    printf("  nutation: X %" PRId64 " nas, Y %" PRId64 " nas, uncertainty %" PRIu64 " nas\n",
+           enfys_nutation_x(day, micros), enfys_nutation_y(day, micros), enfys_nutation_uncertainty(day, micros));
 
     /* The same record, put together by hand and read back. */
     uint8_t again[ENFYS_RECORD_BYTES];

@@ -36,8 +36,8 @@ void differs(const char *call, const char *got, const char *expected, const char
     va_list inputs;
 
     fflush(stdout);
-    fprintf(stderr, "%s: FAILED after %" PRIu64 " calls\n  %s\n  gave     %s\n  expected %s\n  where    ",
-            name, calls, call, got, expected);
+    fprintf(stderr, "%s: FAILED after %" PRIu64 " calls\n  %s\n  gave     %s\n  expected %s\n  where    ", name, calls,
+            call, got, expected);
     va_start(inputs, format);
     vfprintf(stderr, format, inputs);
     va_end(inputs);
@@ -115,8 +115,10 @@ int one_in(unsigned n)
 uint64_t edge(void)
 {
     static const uint64_t ends[] = {
-        0, 12, 23, 24, 28, 30, 31, 59, 60, RUN_RECORDS, 999999, 1000000, FIRST_YEAR, 2000, LAST_YEAR, FIRST_DAY, 51544,
-        LAST_DAY, DAY_MICROS, MARK, 3155760000000000, INT32_MAX, UINT32_MAX, INT64_MAX, UINT64_MAX,
+        0,         12,         23,          24,         28,         30,         31,
+        59,        60,         RUN_RECORDS, 999999,     1000000,    FIRST_YEAR, 2000,
+        LAST_YEAR, FIRST_DAY,  51544,       LAST_DAY,   DAY_MICROS, MARK,       3155760000000000,
+        INT32_MAX, UINT32_MAX, INT64_MAX,   UINT64_MAX,
     };
     uint64_t near = below(5) - 2;
 

@@ -29,13 +29,13 @@ uint64_t bits_of(double x);
  * SAME_..(call, expected, "inputs", ..): makes the call once and compares the answer. The inputs
  * are printed only where the answer differs.
  */
-#define SAME(type, equal, text, call, expected, ...)                        \
-    do {                                                                    \
-        type got_ = (call);                                                 \
-        type expected_ = (expected);                                        \
-        calls++;                                                            \
-        if (!(equal))                                                       \
-            differs(#call, text(got_), text(expected_), __VA_ARGS__);       \
+#define SAME(type, equal, text, call, expected, ...)                  \
+    do {                                                              \
+        type got_ = (call);                                           \
+        type expected_ = (expected);                                  \
+        calls++;                                                      \
+        if (!(equal))                                                 \
+            differs(#call, text(got_), text(expected_), __VA_ARGS__); \
     } while (0)
 #define SAME_U(call, expected, ...) SAME(uint64_t, got_ == expected_, text_u64, call, expected, __VA_ARGS__)
 #define SAME_I(call, expected, ...) SAME(int64_t, got_ == expected_, text_i64, call, expected, __VA_ARGS__)
@@ -43,9 +43,9 @@ uint64_t bits_of(double x);
 #define SAME_BITS(call, expected, ...) \
     SAME(double, bits_of(got_) == bits_of(expected_), text_double, call, expected, __VA_ARGS__)
 /* A whole number at most `distance` from a double. A distance that is NaN is not met. */
-#define WITHIN(distance, call, expected, ...)                                                  \
-    SAME(double, (got_ >= expected_ - (distance)) && (got_ <= expected_ + (distance)), text_double, \
-         (double)(call), expected, __VA_ARGS__)
+#define WITHIN(distance, call, expected, ...)                                                                       \
+    SAME(double, (got_ >= expected_ - (distance)) && (got_ <= expected_ + (distance)), text_double, (double)(call), \
+         expected, __VA_ARGS__)
 
 /* A random number: of 64 bits, from 0 to n - 1, from low to high. */
 uint64_t any(void);

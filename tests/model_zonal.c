@@ -99,7 +99,7 @@ void model_zonal(struct instant at, double number[3])
         lod += c[2] * o + c[3] * MISTAKE(23, s, -s);
         rate += c[4] * o + c[5] * s;
     }
-    number[0] = ut1 * 1e5 + MISTAKE(24, 0, 26); /* 10^-4 s to ns */
+    number[0] = ut1 * 1e5 + MISTAKE(24, 0, 26);  /* 10^-4 s to ns */
     number[1] = lod * 1e7 + MISTAKE(25, 0, 260); /* 10^-5 s to ps */
     number[2] = rate * 1e6 + MISTAKE(26, 0, 26); /* 10^-14 to 10^-20 rad/s */
 }

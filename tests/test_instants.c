@@ -5,8 +5,9 @@
 
 #include <string.h>
 
-#define FIELDS "%" PRIu64 "-%" PRIu64 "-%" PRIu64 " %" PRIu64 ":%" PRIu64 ":%" PRIu64 ", microsecond %" PRIu64, \
-    f[0], f[1], f[2], f[3], f[4], f[5], f[6]
+#define FIELDS                                                                                                         \
+    "%" PRIu64 "-%" PRIu64 "-%" PRIu64 " %" PRIu64 ":%" PRIu64 ":%" PRIu64 ", microsecond %" PRIu64, f[0], f[1], f[2], \
+        f[3], f[4], f[5], f[6]
 #define ALL f[0], f[1], f[2], f[3], f[4], f[5], f[6]
 
 static void instant(const uint64_t f[7])

@@ -68,9 +68,11 @@ static uint32_t read_one(size_t length)
 
         SAME_U(enfys_record_write(enfys_record_day(bytes, length), enfys_record_micros(bytes, length),
                                   enfys_record_ut1(bytes, length), enfys_record_lod(bytes, length),
-                                  enfys_record_rate(bytes, length), again, RECORD_BYTES), 0, BYTES);
+                                  enfys_record_rate(bytes, length), again, RECORD_BYTES),
+               0, BYTES);
         if (memcmp(again, bytes, RECORD_BYTES) != 0)
-            differs("enfys_record_write", text_bytes(again, RECORD_BYTES), text_bytes(bytes, RECORD_BYTES), "a record written again");
+            differs("enfys_record_write", text_bytes(again, RECORD_BYTES), text_bytes(bytes, RECORD_BYTES),
+                    "a record written again");
     }
     return refusal;
 }
@@ -162,7 +164,8 @@ static void reference(void)
 
     SAME_U(enfys_record_write(54465, 0, 1, -1, 0, bytes, RECORD_BYTES), 0, "the record of day 54465");
     if (memcmp(bytes, want, RECORD_BYTES) != 0)
-        differs("enfys_record_write", text_bytes(bytes, RECORD_BYTES), text_bytes(want, RECORD_BYTES), "the record of day 54465");
+        differs("enfys_record_write", text_bytes(bytes, RECORD_BYTES), text_bytes(want, RECORD_BYTES),
+                "the record of day 54465");
     read_one(RECORD_BYTES);
     /* Each single bit is missed. */
     for (unsigned bit = 0; bit < 8 * RECORD_BYTES; bit++) {
@@ -209,6 +212,7 @@ int main(int argc, char **argv)
     }
     for (size_t i = 0; i < sizeof refusals / sizeof *refusals; i++)
         if (seen[refusals[i]] < 100)
-            differs("the damage", text_u64(seen[refusals[i]]), "100 or more", "times that refusal %d came up", refusals[i]);
+            differs("the damage", text_u64(seen[refusals[i]]), "100 or more", "times that refusal %d came up",
+                    refusals[i]);
     return end(NULL);
 }

@@ -16,8 +16,8 @@ static void untouched(size_t from, size_t to, struct instant start, uint64_t cou
 {
     for (size_t i = from; i < to; i++)
         if (space[i] != before[i])
-            differs("enfys_run_write", text_u64(space[i]), text_u64(before[i]), RUN ", byte %d of the buffer",
-                    OF_RUN, (int)i - BEFORE);
+            differs("enfys_run_write", text_u64(space[i]), text_u64(before[i]), RUN ", byte %d of the buffer", OF_RUN,
+                    (int)i - BEFORE);
 }
 
 /* Each record is read by the model: its instant, and the three numbers of service (e) for that instant. */
@@ -66,15 +66,19 @@ static void orders(void)
 {
     for (int round = 0; round < 300; round++)
         for (unsigned wrong = 1; wrong < 64; wrong++) {
-            uint64_t count = wrong & 1 ? (one_in(3) ? 0 : one_in(2) ? 97 : edge() | 128) : 1 + below(RUN_RECORDS);
-            uint64_t step = wrong & 2 ? (one_in(3) ? 0 : DAY_MICROS + 1 + (any() >> 1 >> below(63))) : 1 + below(DAY_MICROS);
+            uint64_t count = 1 + below(RUN_RECORDS), step = 1 + below(DAY_MICROS);
             struct instant start = {between(FIRST_DAY, LAST_DAY - 133), below(DAY_MICROS)};
-            size_t length = wrong & 32 ? below(count < 1 || count > RUN_RECORDS ? RECORD_BYTES : RECORD_BYTES * count) : RUN_RECORDS * RECORD_BYTES;
+            size_t length = wrong & 32 ? below(RECORD_BYTES * count) : RUN_RECORDS * RECORD_BYTES;
 
+            if (wrong & 1)
+                count = one_in(3) ? 0 : one_in(2) ? RUN_RECORDS + 1 : edge() | 128;
+            if (wrong & 2)
+                step = one_in(3) ? 0 : DAY_MICROS + 1 + (any() >> 1 >> below(63));
             if (wrong & 16)
                 start.day = LAST_DAY;
             if (wrong & 4)
-                start.day = one_in(2) ? FIRST_DAY - 1 - (int64_t)(any() >> 1 >> below(63)) : LAST_DAY + 1 + (int64_t)below(1000);
+                start.day = one_in(2) ? FIRST_DAY - 1 - (int64_t)(any() >> 1 >> below(63))
+                                      : LAST_DAY + 1 + (int64_t)below(1000);
             if (wrong & 8)
                 start.micros = DAY_MICROS + below(1000);
             run(start, count, step, length);
@@ -109,8 +113,14 @@ static void by_hand(void)
         size_t length;
         uint32_t refusal;
     } row[] = {
-        {96, 900000000, 2880, 0}, {97, 900000000, 2880, 17}, {96, 900000000, 2879, 12}, {1, DAY_MICROS, 30, 0},
-        {1, DAY_MICROS + 1, 30, 18}, {0, 0, 0, 17}, {1, 0, 30, 18}, {1, 1, 29, 12},
+        {96, 900000000, 2880, 0},
+        {97, 900000000, 2880, 17},
+        {96, 900000000, 2879, 12},
+        {1, DAY_MICROS, 30, 0},
+        {1, DAY_MICROS + 1, 30, 18},
+        {0, 0, 0, 17},
+        {1, 0, 30, 18},
+        {1, 1, 29, 12},
     };
 
     for (size_t i = 0; i < sizeof row / sizeof *row; i++) {

@@ -50,7 +50,8 @@ static void reference(void)
 /* Both ends of the range and the microseconds around midnights, noons and J2000. */
 static void edges(void)
 {
-    static const int64_t day[] = {FIRST_DAY - 1, FIRST_DAY, FIRST_DAY + 1, 51543, 51544, 51545, LAST_DAY - 1, LAST_DAY, LAST_DAY + 1};
+    static const int64_t day[] = {FIRST_DAY - 1, FIRST_DAY,    FIRST_DAY + 1, 51543,       51544,
+                                  51545,         LAST_DAY - 1, LAST_DAY,      LAST_DAY + 1};
 
     for (size_t i = 0; i < sizeof day / sizeof *day; i++)
         for (uint64_t m = 0; m < 4; m++) {
