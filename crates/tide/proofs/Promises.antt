@@ -1,22 +1,24 @@
 -- What is promised of the frequency and the phase. Assumes nothing.
 use mathlib.Core.Path.{_≡_, refl, sym, ap, _∙_}
-use mathlib.Core.Bool.{Bool, true, false, cond}
-use Prim.Native.Nat.{ℕ, _<_}
+use mathlib.Core.Bool.{Bool, true, false, cond, not}
+use mathlib.Core.List.{[], _∷_}
+use Prim.Native.Nat.{ℕ}
 use lib.Dec.{T, leb}
 use lib.IntN.{ℤ, pos}
 use lib.Ieee.{rem, lt, eq, ofInt}
-use borrow.Author.Tests.{leb-true, leb-false}
 use Rattle.calendar.specs.Limits.{dayMicros}
-use Rattle.calendar.specs.Instants.{outside, indexAt, acceptance, IsAccepted}
+use Rattle.calendar.specs.Refusals.{case, firstRefusal}
+use Rattle.calendar.specs.Instants.{outside, acceptance, IsAccepted}
 use Rattle.calendar.specs.declared.Acceptance.{Acceptance}
 use Rattle.calendar.specs.declared.Acceptance.the-variants.{Accepted, NotAccepted}
 use Rattle.calendar.proofs.Index.{accepted-at}
 use Rattle.tide.specs.declared.Doodson.{Doodson}
 use Rattle.tide.specs.declared.Arguments.{Arguments}
+use Rattle.tide.specs.declared.Constituent.{Constituent}
 use Rattle.tide.specs.declared.Answer.the-variants.{Given, Refused}
 use Rattle.tide.specs.Binary64.{zero64}
 use Rattle.tide.specs.Tidal.{argumentsAt, sumOfProducts, turn, raised, settled, reduced, constituentOf, allInRange, answerOf, tideBy, tideOf, frequencyOf, phaseOf, refusalOf, doodson}
-use Rattle.tide.specs.Claims.{Finite, InTurn, RefusalCase, dayOutside, microsTooMany, multiplierOutside, notRefused}
+use Rattle.tide.specs.Claims.{Finite, InTurn}
 use Rattle.tide.proofs.Bounded.{bound-finite}
 use Rattle.tide.proofs.Sums.{Bounds, bounds-at, sum-bound, zero-sum}
 use Rattle.tide.proofs.Range.{zero-in, reduced-in-turn}
@@ -76,20 +78,20 @@ zeros-give-zero d m h =
     )
 
 -- ---- the refusals
-answer-refusal : (d : ℤ) (m : ℕ) (k : Doodson) → outside d ≡ false → m < dayMicros → (a : Arguments) → RefusalCase d m k (refusalOf (answerOf a k))
-unfolding answerOf
-answer-refusal d m k p q a = by (allInRange k) refl
-  where
-    by : (c : Bool) → allInRange k ≡ c → RefusalCase d m k (refusalOf (cond c (Given (constituentOf a k)) (Refused 11)))
-    by true e = notRefused p q e
-    by false e = multiplierOutside p q e
+range-by : (c : Bool) (x : Constituent) → refusalOf (cond c (Given x) (Refused 11)) ≡ cond (not c) 11 0
+range-by true x = refl
+range-by false x = refl
 
--- PROMISE. Each refusal number is given exactly in its case.
-pub refusal-case : (d : ℤ) (m : ℕ) (k : Doodson) → RefusalCase d m k (refusalOf (tideOf d m k))
+refusal-by : (a b : Bool) (i : ℕ) (d : ℤ) (m : ℕ) (k : Doodson)
+    → refusalOf (tideBy (cond a (NotAccepted 8) (cond b (NotAccepted 9) (Accepted i))) d m k)
+    ≡ firstRefusal (case 8 a ∷ case 9 b ∷ case 11 (not (allInRange k)) ∷ [])
+unfolding answerOf
+refusal-by true b i d m k = refl
+refusal-by false true i d m k = refl
+refusal-by false false i d m k = range-by (allInRange k) (constituentOf (argumentsAt d m) k)
+
+-- PROMISE. Frequency and phase are refused by the first of 8, 9 and 11 that applies, and by nothing else.
+pub tide-refusal : (d : ℤ) (m : ℕ) (k : Doodson)
+    → refusalOf (tideOf d m k) ≡ firstRefusal (case 8 (outside d) ∷ case 9 (leb dayMicros m) ∷ case 11 (not (allInRange k)) ∷ [])
 unfolding tideOf acceptance
-refusal-case d m k = by (outside d) (leb dayMicros m) refl refl
-  where
-    by : (a b : Bool) → outside d ≡ a → leb dayMicros m ≡ b → RefusalCase d m k (refusalOf (tideBy (cond a (NotAccepted 8) (cond b (NotAccepted 9) (Accepted (indexAt d)))) d m k))
-    by true b p q = dayOutside p
-    by false true p q = microsTooMany p (leb-true dayMicros m q)
-    by false false p q = answer-refusal d m k p (leb-false dayMicros m q) (argumentsAt d m)
+tide-refusal d m k = refusal-by (outside d) (leb dayMicros m) _ d m k
