@@ -71,7 +71,7 @@ fn quartic(t: f64, c0: f64, c1: f64, c2: f64, c3: f64, c4: f64) -> f64
 }
 
 // The arguments at the fraction f of a day, t centuries from J2000.0.
-pub fn arguments_of(f: f64, t: f64) -> Arguments
+fn arguments_of(f: f64, t: f64) -> Arguments
     ensures { λ r. ⌜ r ≡ argumentsOf f t ⌝ }
 {
     let f1 = quartic(
@@ -140,7 +140,7 @@ pub fn arguments_of(f: f64, t: f64) -> Arguments
 }
 
 // The arguments at an accepted instant.
-pub fn arguments_at(day: i64, micros: u64) -> Arguments
+fn arguments_at(day: i64, micros: u64) -> Arguments
     requires { ⌜ IsAccepted day micros ⌝ }
     ensures { λ r. ⌜ r ≡ argumentsAt day micros ⌝ }
 {
@@ -209,7 +209,7 @@ fn reduce(p: f64) -> f64
 }
 
 // The answer for any multipliers, from arguments at hand.
-pub fn answer_from(a: Arguments, k: Doodson) -> Answer
+fn answer_from(a: Arguments, k: Doodson) -> Answer
     ensures { λ r. ⌜ r ≡ answerOf a k ⌝ }
 {
     if all_in_range(k) {
