@@ -2,7 +2,8 @@
  * Enfysgar: calendar, clock words, tidal phases, zonal-tide corrections,
  * free-core-nutation offsets and records for a timing unit.
  *
- * Link libenfysgar.a and include this header:
+ * Include this header, and link libenfysgar.a and the mathematical library
+ * (for its fmod):
  *
  *     cc daemon.c $(pkg-config --cflags --libs enfysgar)
  *
