@@ -23,9 +23,9 @@ pub record Valid (t : Date) : Type 0 where
   pub last : t .day ≤ monthLength (t .year) (t .month)
 
 -- the day after a date is a date, one further
-pub record Steps (s t : Date) : Type 0 where
-  pub valid : Valid t
-  pub more : indexOf t ≡ suc (indexOf s)
+record Steps (s t : Date) : Type 0 where
+  valid : Valid t
+  more : indexOf t ≡ suc (indexOf s)
 
 pub years-one : (k : ℕ) → daysOfYears (suc k) ≡ daysOfYears k + (365 + leapDay (1600 + k))
 unfolding daysOfYears
@@ -41,7 +41,7 @@ before-one : (y : ℕ) → daysBefore y 1 ≡ 0
 unfolding daysBefore sum monthLengths
 before-one y = refl
 
-pub step : (t : Date) → Valid t → Steps t (next t)
+step : (t : Date) → Valid t → Steps t (next t)
 unfolding next indexOf
 step t v = by-day (ltb (t .day) (monthLength (t .year) (t .month))) refl
   where

@@ -6,7 +6,7 @@ use native.Mathlib.Omega.{arith}
 use native.Mathlib.Decide.{decLe}
 use native.Mathlib.Numerals.{add-one}
 use lib.Dec.{ltb}
-use lib.IntN.{ℤ, pos, _+ℤ_, _-ℤ_, natAbs}
+use lib.IntN.{ℤ, pos, _+ℤ_, natAbs, +ℤ-assoc, +ℤ-comm, -ℤ-+ℤ-cancel}
 use borrow.Author.Tests.{le-ltb, ltb-false}
 use Rattle.calendar.proofs.Cases.{no-case}
 use Rattle.calendar.specs.declared.Date.{Date}
@@ -16,8 +16,7 @@ use Rattle.calendar.specs.declared.DateAnswer.the-variants.{OnDate, NoDa
 use Rattle.calendar.specs.Limits.{firstYear, lastYear}
 use Rattle.calendar.specs.Instants.{outside, indexAt}
 use Rattle.calendar.specs.Dates.{monthLength, daysOfYears, indexOf, next, dateAfter, date, numberOf, dayOf, dateOf}
-use Rattle.calendar.specs.Inner.{leapDay}
-use Rattle.calendar.proofs.Dates.{Valid, Found, Steps, step, years-one, after, after-index, index-low, index-high, years-apart}
+use Rattle.calendar.proofs.Dates.{Valid, Found, after, after-index, index-low, index-high, years-apart}
 use Rattle.calendar.proofs.Signs.{firstIndex, lastIndex}
 use Rattle.calendar.proofs.Index.{HasIndex, inside-index}
 use Rattle.calendar.proofs.Laws.{years-counted}
@@ -136,16 +135,18 @@ pub has-date : (z : ℤ) → outside z ≡ false → dateOf z ≡ OnDate (dateAf
 unfolding dateOf
 has-date z o = simp o
 
--- PROMISE. The day after an accepted date, month and year ends included, has the next day number, unless it is past the last.
-pub next-day : (y m d : ℕ) (z : ℤ) → dayOf y m d ≡ Day z → AcceptedDate (next (date y m d) .year) (next (date y m d) .month) (next (date y m d) .day)
-    → dayOf (next (date y m d) .year) (next (date y m d) .month) (next (date y m d) .day) ≡ Day (z +ℤ pos 1)
-next-day y m d z e b =
-    let a : AcceptedDate y m d = day-accepted y m d z e in
-    let s : Steps (date y m d) (next (date y m d)) = step (date y m d) (valid y m d a) in
-    let r : (firstIndex ≤ indexOf (date y m d)) × (indexOf (date y m d) ≤ lastIndex) = index-range y m d a in
-    let f : Day z ≡ Day (numberOf (indexOf (date y m d))) = sym e ∙ accepted-day y m d a in
-    let g : z ≡ pos (indexOf (date y m d) - 94553) = cc (number-pos (indexOf (date y m d)) (r .0)) in
-    let k : suc (indexOf (date y m d)) - 94553 ≡ indexOf (date y m d) - 94553 + 1 = omega (arith, r .0) in
-    let n : numberOf (indexOf (next (date y m d))) ≡ z +ℤ pos 1 =
-    ap numberOf (s .more) ∙ (number-pos (suc (indexOf (date y m d))) (omega (arith, r .0)) ∙ (ap pos k ∙ ap (λ (x : ℤ). x +ℤ pos 1) (sym g))) in
-    accepted-day _ _ _ b ∙ ap Day n
+next-index : (z : ℤ) → HasIndex z (indexAt z) → indexAt (z +ℤ pos 1) ≡ suc (indexAt z)
+unfolding indexAt
+next-index z h =
+    let u : z +ℤ pos 94553 ≡ pos (indexAt z) = ap (λ (x : ℤ). x +ℤ pos 94553) (h .is) ∙ -ℤ-+ℤ-cancel (pos (indexAt z)) (pos 94553) in
+    let e : (z +ℤ pos 1) +ℤ pos 94553 ≡ pos (indexAt z + 1) =
+    +ℤ-assoc z (pos 1) (pos 94553) ∙ (ap (λ (x : ℤ). z +ℤ x) (+ℤ-comm (pos 1) (pos 94553)) ∙ (sym (+ℤ-assoc z (pos 94553) (pos 1)) ∙ ap (λ (x : ℤ). x +ℤ pos 1) u)) in
+    ap natAbs e ∙ add-one (indexAt z)
+
+-- PROMISE. The date of the next day number is the next date, month and year ends included.
+pub next-date : (z : ℤ) (t : Date) → dateOf z ≡ OnDate t → outside (z +ℤ pos 1) ≡ false → dateOf (z +ℤ pos 1) ≡ OnDate (next t)
+unfolding dateAfter
+next-date z t e o =
+    let r : (outside z ≡ false) × (t ≡ dateAfter (indexAt z)) = date-range z t e in
+    let s : indexAt (z +ℤ pos 1) ≡ suc (indexAt z) = next-index z (inside-index z (r .0)) in
+    has-date (z +ℤ pos 1) o ∙ ap OnDate (ap dateAfter s ∙ ap next (sym (r .1)))

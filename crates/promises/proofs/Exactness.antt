@@ -1,0 +1,21 @@
+-- Demand 2 holds. Assumes nothing.
+use Rattle.calendar.proofs.Inverse.{there-and-back, back-and-there, has-date, next-date}
+use Rattle.calendar.proofs.Times.{instant-accepted}
+use Rattle.clock.proofs.Words.{split-accepted, split-then-join, JoinedExactly, joined-exactly}
+use Rattle.tide.proofs.Promises.{frequency-finite, phase-in-turn, zeros-give-zero}
+use Rattle.promises.specs.Exactness.{Exactness}
+
+-- PROMISE. Demand 2: exactness.
+pub exactness : Exactness
+exactness = record {
+  date-there-and-back = there-and-back;
+  day-there-and-back = back-and-there;
+  every-day-has-a-date = has-date;
+  next-day-next-date = next-date;
+  instant-of-date = instant-accepted;
+  split-and-joined = λ d m a. (split-accepted d m a, split-then-join d m a);
+  joined-exactly = λ d e k m a b n. let j : JoinedExactly d e m = joined-exactly d e k m a b n in (j .same, j .other);
+  frequency-finite = frequency-finite;
+  phase-in-turn = phase-in-turn;
+  zeros-give-zero = zeros-give-zero;
+}

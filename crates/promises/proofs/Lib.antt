@@ -1,0 +1,2 @@
+pub mod AnyInput
+pub mod Exactness

@@ -1,0 +1,52 @@
+-- Demand 1: any input is answered. Each service is refused by the first number of its list that applies, and by nothing else; beside a refusal
+-- every other number is 0, and no lent byte changes. That each exported call gives these numbers for every input is its contract
+-- (crates/enfysgar/src).
+use Prim.Native.Nat.{ℕ, _/_, _%_}
+use mathlib.Core.Path.{_≡_}
+use mathlib.Core.Bool.{not, _||_}
+use mathlib.Core.List.{[], _∷_}
+use lib.Dec.{ltb, leb, eqb}
+use lib.IntN.{ℤ, pos}
+use Rattle.calendar.specs.Limits.{firstYear, lastYear, dayMicros}
+use Rattle.calendar.specs.Refusals.{case, firstRefusal}
+use Rattle.calendar.specs.Instants.{outside}
+use Rattle.calendar.specs.Dates.{monthLength, dayOf, dateOf, dayNumberOf, dayRefusalOf, yearOf, monthOf, dayOfMonthOf, dateRefusalOf}
+use Rattle.calendar.specs.Times.{instantOf, instantDayOf, instantMicrosOf, instantRefusalOf}
+use Rattle.calendar.specs.declared.DayAnswer.{DayAnswer}
+use Rattle.calendar.specs.declared.DateAnswer.{DateAnswer}
+use Rattle.calendar.specs.declared.InstantAnswer.{InstantAnswer}
+use Rattle.clock.specs.Words.{markUnit, mark, splitOf, joinOf, dayWordOf, timeWordOf, splitRefusalOf, joinedDayOf, joinedMicrosOf, joinRefusalOf}
+use Rattle.clock.specs.declared.SplitAnswer.{SplitAnswer}
+use Rattle.clock.specs.declared.JoinAnswer.{JoinAnswer}
+use Rattle.tide.specs.Binary64.{zero64}
+use Rattle.tide.specs.Tidal as tide
+use Rattle.tide.specs.declared.Doodson.{Doodson}
+use Rattle.tide.specs.declared.Answer as tideAnswer
+
+-- beside a refusal of the answer a, its number `value` is `zero`
+abbrev pub ZeroBeside : {A B : Type 0} → (A → ℕ) → (A → B) → B → A → Type 0
+ZeroBeside refusal value zero a = (refusal a ≡ 0 → ⊥) → value a ≡ zero
+
+pub record AnyInputIsAnswered : Type 0 where
+  -- (a)
+  pub date-to-day : (y m d : ℕ) → dayRefusalOf (dayOf y m d)
+      ≡ firstRefusal (case 1 (ltb y firstYear || ltb lastYear y) ∷ case 2 (ltb m 1 || ltb 12 m) ∷ case 3 (ltb d 1 || ltb (monthLength y m) d) ∷ [])
+  pub date-to-day-zero : (a : DayAnswer) → ZeroBeside dayRefusalOf dayNumberOf (pos 0) a
+  pub day-to-date : (z : ℤ) → dateRefusalOf (dateOf z) ≡ firstRefusal (case 8 (outside z) ∷ [])
+  pub day-to-date-zero : (a : DateAnswer) → ZeroBeside dateRefusalOf yearOf 0 a × ZeroBeside dateRefusalOf monthOf 0 a × ZeroBeside dateRefusalOf dayOfMonthOf 0 a
+  -- (b)
+  pub date-and-time : (y m d h n s u : ℕ) → instantRefusalOf (instantOf y m d h n s u)
+      ≡ firstRefusal
+      (case 1 (ltb y firstYear || ltb lastYear y) ∷ case 2 (ltb m 1 || ltb 12 m) ∷ case 3 (ltb d 1 || ltb (monthLength y m) d)
+      ∷ case 4 (ltb 23 h) ∷ case 5 (ltb 59 n) ∷ case 6 (ltb 59 s) ∷ case 7 (ltb 999999 u) ∷ [])
+  pub date-and-time-zero : (a : InstantAnswer) → ZeroBeside instantRefusalOf instantDayOf (pos 0) a × ZeroBeside instantRefusalOf instantMicrosOf 0 a
+  -- (c)
+  pub split : (d : ℤ) (m : ℕ) → splitRefusalOf (splitOf d m) ≡ firstRefusal (case 8 (outside d) ∷ case 9 (leb dayMicros m) ∷ [])
+  pub split-zero : (a : SplitAnswer) → ZeroBeside splitRefusalOf dayWordOf (pos 0) a × ZeroBeside splitRefusalOf timeWordOf 0 a
+  pub join : (d : ℤ) (t : ℕ) → joinRefusalOf (joinOf d t)
+      ≡ firstRefusal (case 8 (outside d) ∷ case 9 (leb dayMicros (t % markUnit)) ∷ case 10 (not (eqb (t / markUnit) (mark d))) ∷ [])
+  pub join-zero : (a : JoinAnswer) → ZeroBeside joinRefusalOf joinedDayOf (pos 0) a × ZeroBeside joinRefusalOf joinedMicrosOf 0 a
+  -- (d)
+  pub phase : (d : ℤ) (m : ℕ) (k : Doodson) → tide.refusalOf (tide.tideOf d m k)
+      ≡ firstRefusal (case 8 (outside d) ∷ case 9 (leb dayMicros m) ∷ case 11 (not (tide.allInRange k)) ∷ [])
+  pub phase-zero : (a : tideAnswer.Answer) → ZeroBeside tide.refusalOf tide.frequencyOf zero64 a × ZeroBeside tide.refusalOf tide.phaseOf zero64 a

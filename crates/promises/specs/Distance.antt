@@ -1,0 +1,2 @@
+-- Demand 3: distance.
+use Prim.Native.Nat.{ℕ}

@@ -1,0 +1,42 @@
+-- Demand 2: exactness. Dates each way; frequency and phase; records read back; clock words joined exactly when they are of one day.
+use Prim.Native.Nat.{ℕ, _<_}
+use mathlib.Core.Path.{_≡_}
+use mathlib.Core.Bool.{false}
+use lib.IntN.{ℤ, pos, _+ℤ_, _-ℤ_, natAbs}
+use Rattle.calendar.specs.Instants.{instant, outside, indexAt, IsAccepted}
+use Rattle.calendar.specs.Dates.{date, next, dateAfter, dayOf, dateOf}
+use Rattle.calendar.specs.Times.{instantOf}
+use Rattle.calendar.specs.declared.Date.{Date}
+use Rattle.calendar.specs.declared.Instant.{Instant}
+use Rattle.calendar.specs.declared.DayAnswer.the-variants.{Day}
+use Rattle.calendar.specs.declared.DateAnswer.the-variants.{OnDate}
+use Rattle.calendar.specs.declared.InstantAnswer.the-variants.{AtInstant}
+use Rattle.clock.specs.Words.{words, timeWord, splitOf, joinOf}
+use Rattle.clock.specs.declared.SplitAnswer.the-variants.{Split}
+use Rattle.clock.specs.declared.JoinAnswer.the-variants.{Joined, NoJoin}
+use Rattle.tide.specs.Binary64.{zero64}
+use Rattle.tide.specs.Tidal.{tideOf, frequencyOf, phaseOf, doodson}
+use Rattle.tide.specs.Claims.{Finite, InTurn}
+use Rattle.tide.specs.declared.Doodson.{Doodson}
+use Rattle.tide.specs.declared.Answer.the-variants as tideCase
+
+pub record Exactness : Type 0 where
+  -- (a) the date of a date's day number is that date, and the day number of a day number's date is that day number
+  pub date-there-and-back : (y m d : ℕ) (z : ℤ) → dayOf y m d ≡ Day z → dateOf z ≡ OnDate (date y m d)
+  pub day-there-and-back : (z : ℤ) (t : Date) → dateOf z ≡ OnDate t → dayOf (t .year) (t .month) (t .day) ≡ Day z
+  -- every day number in range has a date, and the next day is the next date, month and year ends included
+  pub every-day-has-a-date : (z : ℤ) → outside z ≡ false → dateOf z ≡ OnDate (dateAfter (indexAt z))
+  pub next-day-next-date : (z : ℤ) (t : Date) → dateOf z ≡ OnDate t → outside (z +ℤ pos 1) ≡ false → dateOf (z +ℤ pos 1) ≡ OnDate (next t)
+  -- (b) the instant of a date and time is accepted, and of the date's day
+  pub instant-of-date : (y m d h n s u : ℕ) (t : Instant) → instantOf y m d h n s u ≡ AtInstant t → (dayOf y m d ≡ Day (t .day)) × IsAccepted (t .day) (t .micros)
+  -- (c) an accepted instant is split and joined again
+  pub split-and-joined : (d : ℤ) (m : ℕ) → IsAccepted d m → (splitOf d m ≡ Split (words d (timeWord d m))) × (joinOf d (timeWord d m) ≡ Joined (instant d m))
+  -- the day word of one moment and the time word of another, less than eight days away, are joined exactly when both are of one day,
+  -- and then give the moment of the time word
+  pub joined-exactly : (d e : ℤ) (k m : ℕ) → IsAccepted d k → IsAccepted e m → natAbs (d -ℤ e) < 8
+      → (d ≡ e → joinOf d (timeWord e m) ≡ Joined (instant e m)) × ((d ≡ e → ⊥) → joinOf d (timeWord e m) ≡ NoJoin 10)
+  -- (d) the frequency is a finite number, the phase is at least 0 and below 360, and six zero multipliers give +0 and +0
+  pub frequency-finite : (d : ℤ) (m : ℕ) (k : Doodson) → Finite (frequencyOf (tideOf d m k))
+  pub phase-in-turn : (d : ℤ) (m : ℕ) (k : Doodson) → InTurn (phaseOf (tideOf d m k))
+  pub zeros-give-zero : (d : ℤ) (m : ℕ) → IsAccepted d m
+      → tideOf d m (doodson (pos 0) (pos 0) (pos 0) (pos 0) (pos 0) (pos 0)) ≡ tideCase.Given (record { frequency = zero64; phase = zero64 })
