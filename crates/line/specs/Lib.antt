@@ -1,0 +1,3 @@
+pub mod Lines
+pub mod Grammar
+pub mod Inner
