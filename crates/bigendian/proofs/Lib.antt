@@ -1,0 +1,4 @@
+pub mod Scanning
+pub mod Signs
+pub mod Numbers
+pub mod Sums

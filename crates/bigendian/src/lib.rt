@@ -1,0 +1,63 @@
+// Numbers as big-endian bytes, signed numbers in two's complement, and sums of 16-bit words.
+ghost use mathlib.Core.Path.{_≡_};
+ghost use Prim.Native.Nat.{_+_, _*_, _%_, _^_, _<_, _≤_};
+ghost use lib.ListN.{length};
+ghost use mir.Syntax.{w32};
+ghost use mir.Val.{SFits};
+ghost use Rattle.bigendian.specs.Numbers.{numberAt, wordSum, twos32, signed32};
+
+fn wide(x: u8) -> u64
+    ensures { λ r. ⌜ r ≡ x ⌝ }
+{
+    x as u64
+}
+
+// The number of the `size` bytes of s at the place `at`.
+pub fn number_at(s: &[u8], at: usize, size: usize) -> u64
+    requires { ⌜ (at + size ≤ length (now s)) × (size ≤ 8) ⌝ }
+    ensures { λ r. ⌜ (r ≡ numberAt (now (s .entry)) at size) × (r < 256 ^ size) ⌝ }
+{
+    let mut value: u64 = 0;
+    let mut k: usize = 0;
+    while k < size {
+        value = value * 256 + wide(s[at + k]);
+        k += 1;
+    }
+    value
+}
+
+// The first `count` words of s, of 16 bits each, added with wrapping.
+pub fn word_sum(s: &[u8], count: usize) -> u16
+    requires { ⌜ 2 * count ≤ length (now s) ⌝ }
+    ensures { λ r. ⌜ r ≡ wordSum (now (s .entry)) count % 65536 ⌝ }
+{
+    let mut sum: u16 = 0;
+    let mut k: usize = 0;
+    while k < count {
+        sum = std::num::wrapping_add_u16(sum, number_at(s, 2 * k, 2) as u16);
+        k += 1;
+    }
+    sum
+}
+
+// A number that 32 bits hold, as those bits.
+pub fn unsigned(x: i64) -> u64
+    requires { ⌜ SFits w32 x ⌝ }
+    ensures { λ r. ⌜ (r ≡ twos32 x) × (r < 4294967296) ⌝ }
+{
+    if x < 0 {
+        return (x + 4294967296) as u64;
+    }
+    x as u64
+}
+
+// The number that 32 bits hold.
+pub fn signed(n: u64) -> i32
+    requires { ⌜ n < 4294967296 ⌝ }
+    ensures { λ r. ⌜ r ≡ signed32 n ⌝ }
+{
+    if n < 2147483648 {
+        return n as i32;
+    }
+    ((n as i64) - 4294967296) as i32
+}

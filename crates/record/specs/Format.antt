@@ -1,0 +1,34 @@
+-- The record, version 1: thirty bytes, every number big-endian.
+use Prim.Native.Nat.{ℕ, _-_, _%_}
+use mathlib.Core.List.{List, _++_}
+use lib.IntN.{ℤ}
+use Rattle.bigendian.specs.Numbers.{bytesOf, wordSum, twos32}
+use Rattle.clock.specs.declared.ClockWords.{ClockWords}
+
+abbrev pub recordLength : ℕ
+recordLength = 30
+
+abbrev pub version : ℕ
+version = 1
+
+-- bytes 0 to 27, from the bits of the five fields
+abbrev pub fieldBytes : (day time ut1 lod rate : ℕ) → List ℕ
+fieldBytes day time ut1 lod rate =
+    bytesOf 2 recordLength
+    ++ bytesOf 1 version
+    ++ bytesOf 1 0
+    ++ bytesOf 4 day
+    ++ bytesOf 8 time
+    ++ bytesOf 4 ut1
+    ++ bytesOf 4 lod
+    ++ bytesOf 4 rate
+
+-- minus a sum, wrapped to 16 bits
+abbrev pub negated : ℕ → ℕ
+negated n = (65536 - n % 65536) % 65536
+
+-- the thirty bytes: bytes 28 and 29 are the word that makes the fifteen words, added with wrapping, 0
+unfoldable pub recordBytes : ClockWords → (ut1 lod rate : ℤ) → List ℕ
+recordBytes w ut1 lod rate =
+    fieldBytes (twos32 (w .day)) (w .time) (twos32 ut1) (twos32 lod) (twos32 rate)
+    ++ bytesOf 2 (negated (wordSum (fieldBytes (twos32 (w .day)) (w .time) (twos32 ut1) (twos32 lod) (twos32 rate)) 14))
