@@ -1,4 +1,5 @@
 pub mod Scanning
+pub mod Puts
 pub mod Signs
 pub mod Numbers
 pub mod Sums

@@ -1,10 +1,11 @@
 // Numbers as big-endian bytes, signed numbers in two's complement, and sums of 16-bit words.
 ghost use mathlib.Core.Path.{_≡_};
 ghost use Prim.Native.Nat.{_+_, _*_, _%_, _^_, _<_, _≤_};
-ghost use lib.ListN.{length};
+ghost use mathlib.Core.List.{_++_};
+ghost use lib.ListN.{length, take, drop};
 ghost use mir.Syntax.{w32};
 ghost use mir.Val.{SFits};
-ghost use Rattle.bigendian.specs.Numbers.{numberAt, wordSum, twos32, signed32};
+ghost use Rattle.bigendian.specs.Numbers.{bytesOf, numberAt, wordSum, twos32, signed32};
 
 fn wide(x: u8) -> u64
     ensures { λ r. ⌜ r ≡ x ⌝ }
@@ -24,6 +25,20 @@ pub fn number_at(s: &[u8], at: usize, size: usize) -> u64
         k += 1;
     }
     value
+}
+
+// Puts the `size` lowest bytes of n at the place `at` of s.
+pub fn put(s: &mut [u8], at: usize, size: usize, n: u64)
+    requires { ⌜ at + size ≤ length (now s) ⌝ }
+    ensures { λ _. ⌜ now (s .exit) ≡ take at (now (s .entry)) ++ (bytesOf size n ++ drop (at + size) (now (s .entry))) ⌝ }
+{
+    let mut rest = n;
+    let mut k = size;
+    while 0 < k {
+        k -= 1;
+        s[at + k] = (rest % 256) as u8;
+        rest = rest / 256;
+    }
 }
 
 // The first `count` words of s, of 16 bits each, added with wrapping.

@@ -11,17 +11,17 @@ recordLength = 30
 abbrev pub version : ℕ
 version = 1
 
--- bytes 0 to 27, from the bits of the five fields
-abbrev pub fieldBytes : (day time ut1 lod rate : ℕ) → List ℕ
-fieldBytes day time ut1 lod rate =
+-- bytes 0 to 27: length, version, zero, the two clock words and the three numbers
+abbrev pub fieldBytes : ClockWords → (ut1 lod rate : ℤ) → List ℕ
+fieldBytes w ut1 lod rate =
     bytesOf 2 recordLength
     ++ bytesOf 1 version
     ++ bytesOf 1 0
-    ++ bytesOf 4 day
-    ++ bytesOf 8 time
-    ++ bytesOf 4 ut1
-    ++ bytesOf 4 lod
-    ++ bytesOf 4 rate
+    ++ bytesOf 4 (twos32 (w .day))
+    ++ bytesOf 8 (w .time)
+    ++ bytesOf 4 (twos32 ut1)
+    ++ bytesOf 4 (twos32 lod)
+    ++ bytesOf 4 (twos32 rate)
 
 -- minus a sum, wrapped to 16 bits
 abbrev pub negated : ℕ → ℕ
@@ -30,5 +30,4 @@ negated n = (65536 - n % 65536) % 65536
 -- the thirty bytes: bytes 28 and 29 are the word that makes the fifteen words, added with wrapping, 0
 unfoldable pub recordBytes : ClockWords → (ut1 lod rate : ℤ) → List ℕ
 recordBytes w ut1 lod rate =
-    fieldBytes (twos32 (w .day)) (w .time) (twos32 ut1) (twos32 lod) (twos32 rate)
-    ++ bytesOf 2 (negated (wordSum (fieldBytes (twos32 (w .day)) (w .time) (twos32 ut1) (twos32 lod) (twos32 rate)) 14))
+    fieldBytes w ut1 lod rate ++ bytesOf 2 (negated (wordSum (fieldBytes w ut1 lod rate) 14))

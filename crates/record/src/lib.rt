@@ -33,42 +33,20 @@ fn bits(x: i32) -> u64
     bigendian::unsigned(x as i64)
 }
 
-// Bytes 0 to 27 from the bits of the fields, and two zeros.
-fn fields(day: u64, time: u64, ut1: u64, lod: u64, rate: u64) -> [u8; 30]
-    ensures { λ r. ⌜ r ≡ fieldBytes day time ut1 lod rate ++ 0 ∷ 0 ∷ [] ⌝ }
+// Bytes 0 to 27, and two zeros.
+fn fields(w: ClockWords, ut1: i32, lod: i32, rate: i32) -> [u8; 30]
+    requires { ⌜ SFits w32 (w .day) ⌝ }
+    ensures { λ r. ⌜ r ≡ fieldBytes w ut1 lod rate ++ 0 ∷ 0 ∷ [] ⌝ }
 {
-    [
-        0,
-        30,
-        1,
-        0,
-        (day / 16777216 % 256) as u8,
-        (day / 65536 % 256) as u8,
-        (day / 256 % 256) as u8,
-        (day % 256) as u8,
-        (time / 72057594037927936 % 256) as u8,
-        (time / 281474976710656 % 256) as u8,
-        (time / 1099511627776 % 256) as u8,
-        (time / 4294967296 % 256) as u8,
-        (time / 16777216 % 256) as u8,
-        (time / 65536 % 256) as u8,
-        (time / 256 % 256) as u8,
-        (time % 256) as u8,
-        (ut1 / 16777216 % 256) as u8,
-        (ut1 / 65536 % 256) as u8,
-        (ut1 / 256 % 256) as u8,
-        (ut1 % 256) as u8,
-        (lod / 16777216 % 256) as u8,
-        (lod / 65536 % 256) as u8,
-        (lod / 256 % 256) as u8,
-        (lod % 256) as u8,
-        (rate / 16777216 % 256) as u8,
-        (rate / 65536 % 256) as u8,
-        (rate / 256 % 256) as u8,
-        (rate % 256) as u8,
-        0,
-        0,
-    ]
+    let mut s = [0u8; 30];
+    bigendian::put(&mut s, 0, 2, 30);
+    bigendian::put(&mut s, 2, 1, 1);
+    bigendian::put(&mut s, 4, 4, bigendian::unsigned(w.day));
+    bigendian::put(&mut s, 8, 8, w.time);
+    bigendian::put(&mut s, 16, 4, bits(ut1));
+    bigendian::put(&mut s, 20, 4, bits(lod));
+    bigendian::put(&mut s, 24, 4, bits(rate));
+    s
 }
 
 // The thirty bytes: the last word is the wrapping negation of the sum of the others.
@@ -76,10 +54,9 @@ fn record_bytes(w: ClockWords, ut1: i32, lod: i32, rate: i32) -> [u8; 30]
     requires { ⌜ SFits w32 (w .day) ⌝ }
     ensures { λ r. ⌜ r ≡ recordBytes w ut1 lod rate ⌝ }
 {
-    let mut s = fields(bigendian::unsigned(w.day), w.time, bits(ut1), bits(lod), bits(rate));
+    let mut s = fields(w, ut1, lod, rate);
     let check = std::num::wrapping_sub_u16(0, bigendian::word_sum(&s, 14));
-    s[28] = (check / 256) as u8;
-    s[29] = (check % 256) as u8;
+    bigendian::put(&mut s, 28, 2, check as u64);
     s
 }
 

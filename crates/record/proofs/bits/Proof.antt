@@ -1,3 +1,7 @@
+-- `record::bits` meets its contract. Assumes nothing.
+use mir.Val.{SFits}
+use mir.Syntax.{w64}
+use mir.Facts.{toZ-ofZ, sfits-widen}
 use Rattle.record.proofs.bits.Statement.{statement}
 use Rattle.record.proofs.bits.Tie as tie
 use Rattle.record.proofs.bits.Reads as reads
@@ -5,13 +9,18 @@ use Rattle.record.proofs.bits.Lts as lts
 use Rattle.bigendian.proofs.unsigned.Reads as unsigned-reads
 
 cast-unsigned : tie.Need-cast-unsigned
-cast-unsigned c = ?
+cast-unsigned c = rw (toZ-ofZ (c .fits .x)) (sfits-widen tt (c .fits .x))
 
 unsigned-requires : tie.Need-unsigned-requires
-unsigned-requires c κs = ?
+unsigned-requires c κs =
+    let f : SFits w64 (c .args .x) = sfits-widen tt (c .fits .x) in
+    rw (toZ-ofZ (c .fits .x), toZ-ofZ f) (c .fits .x)
 
 returns : tie.Need-returns
-returns c = ?
+returns c =
+    let s = c .before in
+    let f : SFits w64 (s .args .x) = sfits-widen tt (s .fits .x) in
+    rw (toZ-ofZ (s .fits .x), toZ-ofZ f) at (c .unsigned .ensures .0)
 
 pub bits-spec : {M : Type 1} → statement M
 bits-spec = tie.close (tie.spec cast-unsigned unsigned-requires returns)

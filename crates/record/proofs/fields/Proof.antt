@@ -1,110 +1,115 @@
+-- `record::fields` meets its contract. Assumes nothing.
+use mathlib.Core.Path.{_∙_, ap}
+use mir.Syntax.{w64}
+use mir.Val.{SFits}
+use mir.Facts.{toZ-ofZ, sfits-widen}
+use Rattle.bigendian.specs.Numbers.{twos32}
+use Rattle.record.proofs.Whole.{all-fields}
 use borrow.Author.Needs.{needs}
 use Rattle.record.proofs.fields.Statement.{statement}
 use Rattle.record.proofs.fields.Tie as tie
 use Rattle.record.proofs.fields.Reads as reads
 use Rattle.record.proofs.fields.Lts as lts
+use Rattle.bigendian.proofs.put.Reads as put-reads
+use Rattle.bigendian.proofs.unsigned.Reads as unsigned-reads
+use Rattle.record.proofs.bits.Reads as bits-reads
 
-cast-t8 : tie.Need-cast-t8
-cast-t8 c = search needs
+slice-aggregate-put : tie.Need-slice-aggregate-put
+slice-aggregate-put c = search needs
 
-cast-t11 : tie.Need-cast-t11
-cast-t11 c = search needs
+put-requires : tie.Need-put-requires
+put-requires c κs = search needs
 
-cast-t14 : tie.Need-cast-t14
-cast-t14 c = search needs
+slice-aggregate-put-2 : tie.Need-slice-aggregate-put-2
+slice-aggregate-put-2 c = search needs
 
-cast-t16 : tie.Need-cast-t16
-cast-t16 c = search needs
+put-requires-2 : tie.Need-put-requires-2
+put-requires-2 c κs = search needs
 
-cast-t19 : tie.Need-cast-t19
-cast-t19 c = search needs
+slice-aggregate-put-3 : tie.Need-slice-aggregate-put-3
+slice-aggregate-put-3 c = search needs
 
-cast-t22 : tie.Need-cast-t22
-cast-t22 c = search needs
+unsigned-requires : tie.Need-unsigned-requires
+unsigned-requires c κs = search needs
 
-cast-t25 : tie.Need-cast-t25
-cast-t25 c = search needs
+put-requires-3 : tie.Need-put-requires-3
+put-requires-3 c κs = search needs
 
-cast-t28 : tie.Need-cast-t28
-cast-t28 c = search needs
+slice-aggregate-put-4 : tie.Need-slice-aggregate-put-4
+slice-aggregate-put-4 c = search needs
 
-cast-t31 : tie.Need-cast-t31
-cast-t31 c = search needs
+put-requires-4 : tie.Need-put-requires-4
+put-requires-4 c κs = search needs
 
-cast-t34 : tie.Need-cast-t34
-cast-t34 c = search needs
+slice-aggregate-put-5 : tie.Need-slice-aggregate-put-5
+slice-aggregate-put-5 c = search needs
 
-cast-t37 : tie.Need-cast-t37
-cast-t37 c = search needs
+bits-requires : tie.Need-bits-requires
+bits-requires c κs = search needs
 
-cast-t39 : tie.Need-cast-t39
-cast-t39 c = search needs
+put-requires-5 : tie.Need-put-requires-5
+put-requires-5 c κs = search needs
 
-cast-t42 : tie.Need-cast-t42
-cast-t42 c = search needs
+slice-aggregate-put-6 : tie.Need-slice-aggregate-put-6
+slice-aggregate-put-6 c = search needs
 
-cast-t45 : tie.Need-cast-t45
-cast-t45 c = search needs
+bits-requires-2 : tie.Need-bits-requires-2
+bits-requires-2 c κs = search needs
 
-cast-t48 : tie.Need-cast-t48
-cast-t48 c = search needs
+put-requires-6 : tie.Need-put-requires-6
+put-requires-6 c κs = search needs
 
-cast-t50 : tie.Need-cast-t50
-cast-t50 c = search needs
+slice-aggregate-put-7 : tie.Need-slice-aggregate-put-7
+slice-aggregate-put-7 c = search needs
 
-cast-t53 : tie.Need-cast-t53
-cast-t53 c = search needs
+bits-requires-3 : tie.Need-bits-requires-3
+bits-requires-3 c κs = search needs
 
-cast-t56 : tie.Need-cast-t56
-cast-t56 c = search needs
-
-cast-t59 : tie.Need-cast-t59
-cast-t59 c = search needs
-
-cast-t61 : tie.Need-cast-t61
-cast-t61 c = search needs
-
-cast-t64 : tie.Need-cast-t64
-cast-t64 c = search needs
-
-cast-t67 : tie.Need-cast-t67
-cast-t67 c = search needs
-
-cast-t70 : tie.Need-cast-t70
-cast-t70 c = search needs
-
-cast-t72 : tie.Need-cast-t72
-cast-t72 c = search needs
+put-requires-7 : tie.Need-put-requires-7
+put-requires-7 c κs = search needs
 
 returns : tie.Need-returns
-returns c = ?
+returns c =
+    let p₇ = c .before in
+    let b₇ = p₇ .before in
+    let p₆ = b₇ .before .before .before in
+    let b₆ = p₆ .before in
+    let p₅ = b₆ .before .before .before in
+    let b₅ = p₅ .before in
+    let p₄ = b₅ .before .before .before in
+    let p₃ = p₄ .before .before .before in
+    let b₃ = p₃ .before in
+    let p₂ = b₃ .before .before .before .before in
+    let p₁ = p₂ .before .before .before in
+    let a = p₁ .before .before in
+    let d : SFits w64 (a .args .w .day) = sfits-widen tt (a .pre) in
+    all-fields (a .args .w) (a .args .ut1) (a .args .lod) (a .args .rate) _ _ _ _ _ _ _ _ _ _ _
+    (p₁ .put .ensures) (p₂ .put2 .ensures) (p₃ .put3 .ensures) (p₄ .put4 .ensures) (p₅ .put5 .ensures) (p₆ .put6 .ensures) (p₇ .put7 .ensures)
+    (b₃ .unsigned .ensures .0 ∙ ap twos32 (toZ-ofZ d))
+    (b₅ .bits .ensures ∙ ap twos32 (toZ-ofZ (a .fits .ut1)))
+    (b₆ .bits2 .ensures ∙ ap twos32 (toZ-ofZ (a .fits .lod)))
+    (b₇ .bits3 .ensures ∙ ap twos32 (toZ-ofZ (a .fits .rate)))
 
 pub fields-spec : {M : Type 1} → statement M
 fields-spec =
     tie.close
     (tie.spec
-    cast-t8
-    cast-t11
-    cast-t14
-    cast-t16
-    cast-t19
-    cast-t22
-    cast-t25
-    cast-t28
-    cast-t31
-    cast-t34
-    cast-t37
-    cast-t39
-    cast-t42
-    cast-t45
-    cast-t48
-    cast-t50
-    cast-t53
-    cast-t56
-    cast-t59
-    cast-t61
-    cast-t64
-    cast-t67
-    cast-t70
-    cast-t72
+    slice-aggregate-put
+    put-requires
+    slice-aggregate-put-2
+    put-requires-2
+    slice-aggregate-put-3
+    unsigned-requires
+    put-requires-3
+    slice-aggregate-put-4
+    put-requires-4
+    slice-aggregate-put-5
+    bits-requires
+    put-requires-5
+    slice-aggregate-put-6
+    bits-requires-2
+    put-requires-6
+    slice-aggregate-put-7
+    bits-requires-3
+    put-requires-7
     returns)

@@ -1,3 +1,13 @@
+-- `record::write` meets its contract. Assumes nothing.
+use mathlib.Core.Path.{_≡_, ap, sym, _∙_}
+use native.Mathlib.Omega.{arith}
+use denote.Ref.{now}
+use lib.IntN.{ℤ}
+use mir.Facts.{toZ-ofZ}
+use Rattle.clock.specs.declared.SplitAnswer.the-variants.{Split}
+use Rattle.clock.specs.Words.{splitOf}
+use Rattle.record.specs.Format.{recordBytes}
+use Rattle.record.proofs.Written.{refused, short, done, day-fits}
 use borrow.Author.Needs.{needs}
 use Rattle.record.proofs.write.Statement.{statement}
 use Rattle.record.proofs.write.Tie as tie
@@ -6,6 +16,12 @@ use Rattle.record.proofs.write.Lts as lts
 use Rattle.bytes.proofs.copy.Reads as copy-reads
 use Rattle.clock.proofs.split.Reads as split-reads
 use Rattle.record.proofs.record_bytes.Reads as record-bytes-reads
+
+says : (c : tie.After-split) → c .split .result ≡ splitOf (c .before .before .args .day) (c .before .before .args .micros)
+says c = c .split .ensures ∙ ap (λ (d : ℤ). splitOf d (c .before .before .args .micros)) (toZ-ofZ (c .before .before .fits .day))
+
+was : (c : tie.After-w) → splitOf (c .before .before .before .before .args .day) (c .before .before .before .before .args .micros) ≡ Split (c .w .given .0 .0)
+was c = sym (says (c .before .before)) ∙ c .w .given .1
 
 split-requires : tie.Need-split-requires
 split-requires c κs = search needs
@@ -17,10 +33,12 @@ enum-known-w : tie.Need-enum-known-w
 enum-known-w c = search needs
 
 returns : tie.Need-returns
-returns c = ?
+returns c =
+    let s = c .before .before .before .before .before .before in
+    short (s .args .day) (s .args .micros) (s .args .ut1) (s .args .lod) (s .args .rate) (now (s .args .buffer)) _ (was (c .before .before)) (c .if1 .taken)
 
 record-bytes-requires : tie.Need-record-bytes-requires
-record-bytes-requires c κs = ?
+record-bytes-requires c κs = day-fits _ _ _ (was (c .before .before))
 
 slice-aggregate-copy : tie.Need-slice-aggregate-copy
 slice-aggregate-copy c = search needs
@@ -29,13 +47,23 @@ copy-requires : tie.Need-copy-requires
 copy-requires c κs = search needs
 
 returns-2 : tie.Need-returns-2
-returns-2 c = ?
+returns-2 c =
+    let s = c .before .before .before .before .before in
+    refused (s .args .day) (s .args .micros) (s .args .ut1) (s .args .lod) (s .args .rate) (now (s .args .buffer)) _ (sym (says (c .before .before .before)) ∙ c .before .n .given .1)
 
 same-length : tie.Need-same-length
 same-length c = search needs
 
 returns-3 : tie.Need-returns-3
-returns-3 c = ?
+returns-3 c =
+    let y = c .before .before in
+    let t = y .before .before .before in
+    let w = t .before .before .before in
+    let s = w .before .before .before .before in
+    let l : t .record-bytes .result ≡ recordBytes (w .w .given .0 .0) (s .args .ut1) (s .args .lod) (s .args .rate) =
+    simp (toZ-ofZ (s .fits .ut1), toZ-ofZ (s .fits .lod), toZ-ofZ (s .fits .rate)) at (t .record-bytes .ensures) in
+    let d = done (s .args .day) (s .args .micros) (s .args .ut1) (s .args .lod) (s .args .rate) (now (s .args .buffer)) (w .w .given .0 .0) (t .record-bytes .result) (was w) (t .before .if1 .left) l in
+    (d .0, y .copy .ensures .1 ∙ d .1)
 
 pub write-spec : {M : Type 1} → statement M
 write-spec =

@@ -1,0 +1,46 @@
+-- What writing gives, case by case. Assumes nothing.
+use Prim.Native.Nat.{ℕ, suc, _+_, _-_, _≤_, _<_}
+use mathlib.Core.Path.{_≡_, refl, ap, _∙_}
+use mathlib.Core.Bool.{Bool, true, false, cond}
+use mathlib.Core.List.{List, [], _∷_, _++_}
+use native.Mathlib.Omega.{arith}
+use borrow.Author.Tests.{lt-ltb, le-ltb, ltb-false, ltb-true}
+use lib.Dec.{ltb}
+use lib.IntN.{ℤ, pos, negsuc, _-ℤ_}
+use lib.ListN.{length, take, drop}
+use mir.Syntax.{w32}
+use mir.Val.{SFits}
+use Rattle.calendar.specs.Instants.{indexAt}
+use Rattle.clock.specs.declared.ClockWords.{ClockWords}
+use Rattle.clock.specs.declared.SplitAnswer.the-variants.{Split, NoSplit}
+use Rattle.clock.specs.Words.{splitOf}
+use Rattle.clock.proofs.Words.{WasSplit, was-split}
+use Rattle.record.specs.Format.{recordLength, recordBytes}
+use Rattle.record.specs.Records.{writeRefusal, written}
+
+module _ (d : ℤ) (m : ℕ) (ut1 lod rate : ℤ) (old : List ℕ) where
+  pub refused : (n : ℕ) → splitOf d m ≡ NoSplit n → (n ≡ writeRefusal d m (length old)) × (old ≡ written d m ut1 lod rate old)
+  unfolding writeRefusal written
+  refused n e = rw e (refl, refl)
+
+  pub short : (w : ClockWords) → splitOf d m ≡ Split w → length old < recordLength → (12 ≡ writeRefusal d m (length old)) × (old ≡ written d m ut1 lod rate old)
+  unfolding writeRefusal written
+  short w e h = simp (e, lt-ltb (length old) 30 h) (refl, refl)
+
+  -- l is copied over the front of the buffer
+  pub done : (w : ClockWords) (l : List ℕ) → splitOf d m ≡ Split w → recordLength ≤ length old → l ≡ recordBytes w ut1 lod rate → (0 ≡ writeRefusal d m (length old)) × (take (length l) l ++ drop (length l) old ≡ written d m ut1 lod rate old)
+  unfolding writeRefusal written recordBytes
+  done w l e h q = simp (e, q, le-ltb (length old) 30 h) (refl, refl)
+
+-- the day word of an accepted instant, -94553 and later, fits 32 bits
+day-word : (i : ℕ) → i < 2147483648 → SFits w32 (pos i -ℤ pos 94553)
+day-word i h = by (ltb i 94553) refl
+  where
+    by : (t : Bool) → ltb i 94553 ≡ t → SFits w32 (cond t (negsuc (94553 - suc i)) (pos (i - 94553)))
+    by true p = record { sfits = omega arith }
+    by false p = record { sfits = omega arith }
+
+pub day-fits : (d : ℤ) (m : ℕ) (w : ClockWords) → splitOf d m ≡ Split w → SFits w32 (w .day)
+day-fits d m w e =
+    let s : WasSplit d m w = was-split d m w e in
+    rw (s .is, s .accepted .is) (day-word (indexAt d) (omega (arith, s .accepted .high)))
