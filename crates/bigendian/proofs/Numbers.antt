@@ -1,5 +1,5 @@
 -- Bytes and numbers are inverse, at every width; what of a list a number depends on. Assumes nothing.
-use Prim.Native.Nat.{ℕ, zero, suc, _+_, _-_, _*_, _/_, _%_, _^_, _<_, _≤_}
+use Prim.Native.Nat.{ℕ, zero, suc, _+_, _*_, _/_, _%_, _^_, _<_, _≤_}
 use mathlib.Core.Path.{_≡_, refl, ap, ap₂, _∙_, sym}
 use mathlib.Core.List.{List, [], _∷_, _++_, append-assoc}
 use native.Mathlib.Omega.{arith}
@@ -46,6 +46,10 @@ pub number-take : (s : List ℕ) (m i k : ℕ) → i + k ≤ m → numberAt (tak
 number-take s m i zero h = refl
 number-take s m i (suc k) h =
     ap₂ (λ (v y : ℕ). v * 256 + y) (number-take s m i k (omega arith)) (getD-take m s (i + k) 0 (omega arith))
+
+pub sum-next : (s : List ℕ) (k : ℕ) → wordSum s (suc k) ≡ wordSum s k + numberAt s (2 * k) 2
+unfolding wordSum
+sum-next s k = refl
 
 pub sum-take : (s : List ℕ) (m k : ℕ) → 2 * k ≤ m → wordSum (take m s) k ≡ wordSum s k
 unfolding wordSum

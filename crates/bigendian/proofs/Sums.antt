@@ -1,10 +1,9 @@
 -- Two lists that differ in one word at most. Assumes nothing.
 use Prim.Native.Nat.{ℕ, zero, suc, _+_, _*_, _%_, _<_, _≤_}
-use mathlib.Core.Path.{_≡_, refl, ap₂, _∙_}
+use mathlib.Core.Path.{_≡_, refl, ap₂}
 use mathlib.Core.List.{List}
 use native.Mathlib.Omega.{arith}
 use native.Mathlib.Decide.{ℕ-discrete}
-use lib.ListN.{getD}
 use Rattle.bigendian.specs.Numbers.{Bytes, numberAt, wordSum}
 use Rattle.bigendian.proofs.Numbers.{number-below}
 

@@ -1,12 +1,12 @@
 -- What the form of bytes tells, and what reading them tells. Assumes nothing.
 use Prim.Native.Nat.{ℕ, _%_, _≤_}
-use mathlib.Core.Path.{_≡_, refl, ap, _∙_, sym}
+use mathlib.Core.Path.{_≡_, refl, sym}
 use mathlib.Core.Bool.{Bool, true, false, cond, not}
 use mathlib.Core.List.{List}
 use native.Mathlib.Omega.{arith}
 use borrow.Author.Tests.{ltb-false, eqb-true, le-ltb, eq-eqb}
 use lib.Dec.{eqb, ltb}
-use lib.IntN.{pos}
+use lib.IntN.{ℤ, pos}
 use lib.ListN.{length}
 use Rattle.bigendian.specs.Numbers.{numberAt, wordSum}
 use Rattle.calendar.specs.declared.Instant.{Instant}
@@ -60,3 +60,8 @@ was-read s r e = by (eqb (formRefusal s) 0) (joinOf (pos (numberAt s 4 4)) (numb
     by false j p q e = let x : _≡_ {A = ℕ} 0 1 = cc in let v : ⊥ = omega arith in absurd v
     by true (NoJoin k) p q e = let x : _≡_ {A = ℕ} 0 1 = cc in let v : ⊥ = omega arith in absurd v
     by true (Joined t) p q e = let f : recordOf t s ≡ r = cc in record { form = formed s (eqb-true _ _ p); instant = t; join = q; is = sym f }
+
+-- records with equal numbers
+pub alike : (d : ℤ) (m : ℕ) {x x' y y' u u' : ℤ} → x ≡ x' → y ≡ y' → u ≡ u'
+    → IsRecord (record { day = d; micros = m; ut1 = x; lod = y; rate = u }) ≡ IsRecord (record { day = d; micros = m; ut1 = x'; lod = y'; rate = u' })
+alike d m p q r = simp (p, q, r)

@@ -1,3 +1,8 @@
 pub mod Whole
 pub mod Forms
 pub mod Written
+pub mod Round
+pub mod Again
+pub mod Kept
+pub mod Refusals
+pub mod Changed

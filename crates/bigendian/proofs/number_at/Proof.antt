@@ -3,16 +3,13 @@ use borrow.Author.Needs.{needs}
 use native.Mathlib.Omega.{arith}
 use native.Mathlib.Numerals.{add-one}
 use Prim.Native.Nat.{ℕ, _-_, _+_, _*_, _^_, _<_, _≤_}
-use mathlib.Core.Path.{_≡_, refl, ap, _∙_}
-use lib.ListN.{length, getD}
+use mathlib.Core.Path.{_≡_, ap, _∙_}
+use lib.ListN.{getD}
 use denote.Ref.{now}
 use Rattle.bigendian.specs.Numbers.{numberAt}
 use Rattle.bigendian.proofs.Scanning.{bytes-fit, byte-more}
 use Rattle.bigendian.proofs.number_at.Statement.{statement}
 use Rattle.bigendian.proofs.number_at.Tie as tie
-use Rattle.bigendian.proofs.number_at.Reads as reads
-use Rattle.bigendian.proofs.number_at.Lts as lts
-use Rattle.bigendian.proofs.wide.Reads as wide-reads
 
 abbrev Inv-loop : tie.InvT-loop
 Inv-loop s at size value₀ k₀ value k = (k ≤ size) × (value ≡ numberAt s at k) × (value < 256 ^ k)

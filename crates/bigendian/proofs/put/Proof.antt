@@ -1,15 +1,11 @@
 -- `bigendian::put` meets its contract. Assumes nothing.
 use borrow.Author.Needs.{needs}
 use native.Mathlib.Omega.{arith}
-use Prim.Native.Nat.{suc, _-_, _+_, _<_, _≤_}
+use Prim.Native.Nat.{suc, _-_}
 use mathlib.Core.Path.{_≡_, refl}
-use lib.ListN.{length}
-use denote.Ref.{now}
 use Rattle.bigendian.proofs.Puts.{Putting, put-more, put-all}
 use Rattle.bigendian.proofs.put.Statement.{statement}
 use Rattle.bigendian.proofs.put.Tie as tie
-use Rattle.bigendian.proofs.put.Reads as reads
-use Rattle.bigendian.proofs.put.Lts as lts
 
 abbrev Inv-loop : tie.InvT-loop
 Inv-loop s₀ at size n rest₀ k₀ s rest k = Putting s₀ at size n s rest k

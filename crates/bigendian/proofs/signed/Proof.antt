@@ -1,13 +1,10 @@
 -- `bigendian::signed` meets its contract. Assumes nothing.
 use Rattle.bigendian.proofs.Signs.{minus-32, minus-fits, minus-read}
-use mir.Syntax.{w32}
-use mir.Facts.{toZ-ofZ, toZ-pos}
+use mir.Facts.{toZ-ofZ}
 use borrow.Author.Tests.{lt-ltb, le-ltb}
 use borrow.Author.Needs.{needs}
 use Rattle.bigendian.proofs.signed.Statement.{statement}
 use Rattle.bigendian.proofs.signed.Tie as tie
-use Rattle.bigendian.proofs.signed.Reads as reads
-use Rattle.bigendian.proofs.signed.Lts as lts
 
 cast-result : tie.Need-cast-result
 cast-result c = search needs

@@ -1,13 +1,10 @@
 -- `bigendian::unsigned` meets its contract. Assumes nothing.
 use Rattle.bigendian.proofs.Signs.{Below, below, Above, above}
-use lib.IntN.{natAbs}
 use native.Mathlib.Omega.{arith}
 use mir.Facts.{toZ-ofZ}
-use mathlib.Core.Path.{ap, refl}
+use mathlib.Core.Path.{refl}
 use Rattle.bigendian.proofs.unsigned.Statement.{statement}
 use Rattle.bigendian.proofs.unsigned.Tie as tie
-use Rattle.bigendian.proofs.unsigned.Reads as reads
-use Rattle.bigendian.proofs.unsigned.Lts as lts
 
 add-result : tie.Need-add-result
 add-result c =

@@ -8,10 +8,6 @@ use Rattle.bigendian.specs.Numbers.{wordSum}
 use Rattle.bigendian.proofs.Scanning.{sum-more}
 use Rattle.bigendian.proofs.word_sum.Statement.{statement}
 use Rattle.bigendian.proofs.word_sum.Tie as tie
-use Rattle.bigendian.proofs.word_sum.Reads as reads
-use Rattle.bigendian.proofs.word_sum.Lts as lts
-use Rattle.bigendian.proofs.number_at.Reads as number-at-reads
-use Rattle.std.proofs.num.wrapping_add_u16.Reads as wrapping-add-u16-reads
 
 abbrev Inv-loop : tie.InvT-loop
 Inv-loop s count sum₀ k₀ sum k = (k ≤ count) × (sum ≡ wordSum s k % 65536)

@@ -4,9 +4,6 @@ use mir.Syntax.{w64}
 use mir.Facts.{toZ-ofZ, sfits-widen}
 use Rattle.record.proofs.bits.Statement.{statement}
 use Rattle.record.proofs.bits.Tie as tie
-use Rattle.record.proofs.bits.Reads as reads
-use Rattle.record.proofs.bits.Lts as lts
-use Rattle.bigendian.proofs.unsigned.Reads as unsigned-reads
 
 cast-unsigned : tie.Need-cast-unsigned
 cast-unsigned c = rw (toZ-ofZ (c .fits .x)) (sfits-widen tt (c .fits .x))

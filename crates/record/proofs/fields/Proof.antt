@@ -8,11 +8,6 @@ use Rattle.record.proofs.Whole.{all-fields}
 use borrow.Author.Needs.{needs}
 use Rattle.record.proofs.fields.Statement.{statement}
 use Rattle.record.proofs.fields.Tie as tie
-use Rattle.record.proofs.fields.Reads as reads
-use Rattle.record.proofs.fields.Lts as lts
-use Rattle.bigendian.proofs.put.Reads as put-reads
-use Rattle.bigendian.proofs.unsigned.Reads as unsigned-reads
-use Rattle.record.proofs.bits.Reads as bits-reads
 
 slice-aggregate-put : tie.Need-slice-aggregate-put
 slice-aggregate-put c = search needs

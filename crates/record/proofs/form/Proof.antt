@@ -10,10 +10,6 @@ use Rattle.record.specs.Records.{formRefusal}
 use borrow.Author.Needs.{needs}
 use Rattle.record.proofs.form.Statement.{statement}
 use Rattle.record.proofs.form.Tie as tie
-use Rattle.record.proofs.form.Reads as reads
-use Rattle.record.proofs.form.Lts as lts
-use Rattle.bigendian.proofs.number_at.Reads as number-at-reads
-use Rattle.bigendian.proofs.word_sum.Reads as word-sum-reads
 
 long : (c : tie.Else1) → ltb (length (now (c .before .before .args .s))) 30 ≡ false
 long c = le-ltb _ _ (c .if1 .left)
@@ -50,7 +46,7 @@ number-at-requires-3 c κs = search needs
 
 returns-4 : tie.Need-returns-4
 unfolding formRefusal
-returns-4 c = 
+returns-4 c =
     let e = c .before .before in
     simp (long (e .before .before .before .before), version (e .before .before), size e, ne-eqb _ _ (λ q. c .if4 .taken (c .before .number-at3 .ensures .0 ∙ q)))
 
@@ -59,13 +55,13 @@ word-sum-requires c κs = search needs
 
 returns-5 : tie.Need-returns-5
 unfolding formRefusal
-returns-5 c = 
+returns-5 c =
     let e = c .before .before in
     simp (long (e .before .before .before .before .before .before), version (e .before .before .before .before), size (e .before .before), none e, ne-eqb _ _ (λ q. c .if5 .taken (c .before .word-sum .ensures ∙ q)))
 
 returns-6 : tie.Need-returns-6
 unfolding formRefusal
-returns-6 c = 
+returns-6 c =
     let e = c .before .before in
     simp (long (e .before .before .before .before .before .before), version (e .before .before .before .before), size (e .before .before), none e, eq-eqb _ _ (sym (c .before .word-sum .ensures) ∙ c .if5 .left))
 

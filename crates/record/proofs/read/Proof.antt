@@ -18,12 +18,6 @@ use Rattle.record.proofs.Forms.{Formed, formed}
 use borrow.Author.Needs.{needs}
 use Rattle.record.proofs.read.Statement.{statement}
 use Rattle.record.proofs.read.Tie as tie
-use Rattle.record.proofs.read.Reads as reads
-use Rattle.record.proofs.read.Lts as lts
-use Rattle.bigendian.proofs.number_at.Reads as number-at-reads
-use Rattle.bigendian.proofs.signed.Reads as signed-reads
-use Rattle.clock.proofs.join.Reads as join-reads
-use Rattle.record.proofs.form.Reads as form-reads
 
 known : (c : tie.Else1) → Formed (now (c .before .before .before .args .s))
 known c = formed _ (sym (c .before .form .ensures) ∙ c .if1 .left)

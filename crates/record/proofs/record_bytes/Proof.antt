@@ -1,18 +1,10 @@
 -- `record::record_bytes` meets its contract. Assumes nothing.
 use native.Mathlib.Omega.{arith}
-use mir.Syntax.{w64}
-use mir.Val.{SFits}
-use mir.Facts.{toZ-ofZ, sfits-widen}
+use mir.Facts.{toZ-ofZ}
 use Rattle.record.proofs.Whole.{checked}
 use borrow.Author.Needs.{needs}
 use Rattle.record.proofs.record_bytes.Statement.{statement}
 use Rattle.record.proofs.record_bytes.Tie as tie
-use Rattle.record.proofs.record_bytes.Reads as reads
-use Rattle.record.proofs.record_bytes.Lts as lts
-use Rattle.bigendian.proofs.put.Reads as put-reads
-use Rattle.bigendian.proofs.word_sum.Reads as word-sum-reads
-use Rattle.record.proofs.fields.Reads as fields-reads
-use Rattle.std.proofs.num.wrapping_sub_u16.Reads as wrapping-sub-u16-reads
 
 fields-requires : tie.Need-fields-requires
 fields-requires c κs = search needs

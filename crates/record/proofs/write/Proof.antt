@@ -1,6 +1,5 @@
 -- `record::write` meets its contract. Assumes nothing.
 use mathlib.Core.Path.{_≡_, ap, sym, _∙_}
-use native.Mathlib.Omega.{arith}
 use denote.Ref.{now}
 use lib.IntN.{ℤ}
 use mir.Facts.{toZ-ofZ}
@@ -11,11 +10,6 @@ use Rattle.record.proofs.Written.{refused, short, done, day-fits}
 use borrow.Author.Needs.{needs}
 use Rattle.record.proofs.write.Statement.{statement}
 use Rattle.record.proofs.write.Tie as tie
-use Rattle.record.proofs.write.Reads as reads
-use Rattle.record.proofs.write.Lts as lts
-use Rattle.bytes.proofs.copy.Reads as copy-reads
-use Rattle.clock.proofs.split.Reads as split-reads
-use Rattle.record.proofs.record_bytes.Reads as record-bytes-reads
 
 says : (c : tie.After-split) → c .split .result ≡ splitOf (c .before .before .args .day) (c .before .before .args .micros)
 says c = c .split .ensures ∙ ap (λ (d : ℤ). splitOf d (c .before .before .args .micros)) (toZ-ofZ (c .before .before .fits .day))
