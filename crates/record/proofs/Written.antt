@@ -1,6 +1,6 @@
 -- What writing gives, case by case. Assumes nothing.
 use Prim.Native.Nat.{ℕ, suc, _-_, _≤_, _<_}
-use mathlib.Core.Path.{_≡_, refl}
+use mathlib.Core.Path.{_≡_, refl, ap}
 use mathlib.Core.Bool.{Bool, true, false, cond}
 use mathlib.Core.List.{List, _++_}
 use native.Mathlib.Omega.{arith}
@@ -27,10 +27,15 @@ module _ (d : ℤ) (m : ℕ) (ut1 lod rate : ℤ) (old : List ℕ) where
   unfolding writeRefusal written
   short w e h = simp (e, lt-ltb (length old) 30 h) (refl, refl)
 
-  -- l is copied over the front of the buffer
-  pub done : (w : ClockWords) (l : List ℕ) → splitOf d m ≡ Split w → recordLength ≤ length old → l ≡ recordBytes w ut1 lod rate → (0 ≡ writeRefusal d m (length old)) × (take (length l) l ++ drop (length l) old ≡ written d m ut1 lod rate old)
+  -- the first thirty of l are copied over the front of the buffer
+  pub done : (w : ClockWords) (l : List ℕ) → splitOf d m ≡ Split w → recordLength ≤ length old → l ≡ recordBytes w ut1 lod rate
+      → (0 ≡ writeRefusal d m (length old)) × (take (length (take 30 l)) (take 30 l) ++ drop (length (take 30 l)) old ≡ written d m ut1 lod rate old)
   unfolding writeRefusal written recordBytes
   done w l e h q = simp (e, q, le-ltb (length old) 30 h) (refl, refl)
+
+pub thirty : (w : ClockWords) (ut1 lod rate : ℤ) (l : List ℕ) → l ≡ recordBytes w ut1 lod rate → length (take 30 l) ≡ 30
+unfolding recordBytes
+thirty w ut1 lod rate l q = ap (λ (k : List ℕ). length (take 30 k)) q
 
 -- the day word of an accepted instant, -94553 and later, fits 32 bits
 day-word : (i : ℕ) → i < 2147483648 → SFits w32 (pos i -ℤ pos 94553)

@@ -68,11 +68,12 @@ pub fn write(day: i64, micros: u64, ut1: i32, lod: i32, rate: i32, buffer: &mut 
     match clock::split(day, micros) {
         SplitAnswer::NoSplit(n) => n,
         SplitAnswer::Split(w) => {
-            if buffer.len() < LENGTH {
+            let n = LENGTH;
+            if buffer.len() < n {
                 return 12;
             }
             let s = record_bytes(w, ut1, lod, rate);
-            bytes::copy(&s[..LENGTH], buffer);
+            bytes::copy(&s[..n], buffer);
             0
         }
     }
