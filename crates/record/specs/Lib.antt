@@ -1,4 +1,3 @@
--- Service (g), one record. Read Format, then Records; Refusals has the order of the refusals as a list, for a promise.
+-- Service (g): one record. Read Format, then Records.
 pub mod Format
 pub mod Records
-pub mod Refusals

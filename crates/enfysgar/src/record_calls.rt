@@ -1,0 +1,80 @@
+// Service (g): one record, written and read.
+use record::ReadAnswer;
+ghost use mathlib.Core.Path.{_≡_};
+ghost use lib.ListN.{length};
+ghost use Rattle.record.specs.Records.{writeRefusal, written, readOf, recordDayOf, recordMicrosOf, recordUt1Of, recordLodOf, recordRateOf, readRefusalOf};
+
+#[no_mangle]
+pub extern "C" fn enfys_record_write(
+    day: i64,
+    micros: u64,
+    ut1: i32,
+    lod: i32,
+    rate: i32,
+    buffer: &mut [u8],
+) -> u32
+    ensures { λ r. ⌜ r ≡ writeRefusal day micros (length (now (buffer .entry))) ⌝ }
+    ensures { λ _. ⌜ now (buffer .exit) ≡ written day micros ut1 lod rate (now (buffer .entry)) ⌝ }
+{
+    record::write(day, micros, ut1, lod, rate, buffer)
+}
+
+#[no_mangle]
+pub extern "C" fn enfys_record_day(s: &[u8]) -> i64
+    ensures { λ r. ⌜ r ≡ recordDayOf (readOf (now (s .entry))) ⌝ }
+{
+    match record::read(s) {
+        ReadAnswer::IsRecord(t) => t.day,
+        ReadAnswer::NoRecord(_) => 0,
+    }
+}
+
+#[no_mangle]
+pub extern "C" fn enfys_record_micros(s: &[u8]) -> u64
+    ensures { λ r. ⌜ r ≡ recordMicrosOf (readOf (now (s .entry))) ⌝ }
+{
+    match record::read(s) {
+        ReadAnswer::IsRecord(t) => t.micros,
+        ReadAnswer::NoRecord(_) => 0,
+    }
+}
+
+#[no_mangle]
+pub extern "C" fn enfys_record_ut1(s: &[u8]) -> i32
+    ensures { λ r. ⌜ r ≡ recordUt1Of (readOf (now (s .entry))) ⌝ }
+{
+    match record::read(s) {
+        ReadAnswer::IsRecord(t) => t.ut1,
+        ReadAnswer::NoRecord(_) => 0,
+    }
+}
+
+#[no_mangle]
+pub extern "C" fn enfys_record_lod(s: &[u8]) -> i32
+    ensures { λ r. ⌜ r ≡ recordLodOf (readOf (now (s .entry))) ⌝ }
+{
+    match record::read(s) {
+        ReadAnswer::IsRecord(t) => t.lod,
+        ReadAnswer::NoRecord(_) => 0,
+    }
+}
+
+#[no_mangle]
+pub extern "C" fn enfys_record_rate(s: &[u8]) -> i32
+    ensures { λ r. ⌜ r ≡ recordRateOf (readOf (now (s .entry))) ⌝ }
+{
+    match record::read(s) {
+        ReadAnswer::IsRecord(t) => t.rate,
+        ReadAnswer::NoRecord(_) => 0,
+    }
+}
+
+#[no_mangle]
+pub extern "C" fn enfys_record_refusal(s: &[u8]) -> u32
+    ensures { λ r. ⌜ r ≡ readRefusalOf (readOf (now (s .entry))) ⌝ }
+{
+    match record::read(s) {
+        ReadAnswer::IsRecord(_) => 0,
+        ReadAnswer::NoRecord(n) => n,
+    }
+}
