@@ -10,26 +10,26 @@ use lib.ListN.{getD}
 pub record Bytes (s : List ℕ) : Type 0 where
   pub byte : (i : ℕ) → getD s i 0 < 256
 
--- the k lowest bytes of n
+-- the k lowest bytes of n, the highest of them first
 abbrev pub bytesOf : ℕ → ℕ → List ℕ
 bytesOf zero n = []
 bytesOf (suc k) n = bytesOf k (n / 256) ++ n % 256 ∷ []
 
--- the number of the k bytes at place i of s
+-- the number whose k bytes stand at place i of s, the highest first
 abbrev pub numberAt : List ℕ → ℕ → ℕ → ℕ
 numberAt s i zero = 0
 numberAt s i (suc k) = numberAt s i k * 256 + getD s (i + k) 0
 
--- the sum of the first k words of s, two bytes each
+-- the sum of the first k words of s, each of two bytes
 unfoldable pub wordSum : List ℕ → ℕ → ℕ
 wordSum s zero = 0
 wordSum s (suc k) = wordSum s k + numberAt s (2 * k) 2
 
--- a signed number's 32 bits: a negative number is 2^32 less than its bits
+-- the 32 bits of a signed number: its own, or 2^32 more than a negative number (negsuc n is -1 - n)
 abbrev pub twos32 : ℤ → ℕ
 twos32 (pos n) = n
 twos32 (negsuc n) = 4_294_967_296 - suc n
 
--- the signed number that 32 bits are
+-- the signed number that has the 32 bits n
 abbrev pub signed32 : ℕ → ℤ
 signed32 n = cond (ltb n 2_147_483_648) (pos n) (negsuc (4_294_967_295 - n))

@@ -50,8 +50,8 @@ module _ (s : List ℕ) (i b : ℕ) (h : i < length s) where
       by (no q) = at (2 * (i / 2) + 1) (omega (arith, q)) (both .1)
 
 -- PROMISE. In a record that reads, one byte changed, as by a flipped bit, is refused.
-pub one-byte : (s : List ℕ) (r : Record) (i b : ℕ) → Bytes s → readOf s ≡ IsRecord r → i < recordLength → b < 256 → (getD s i 0 ≡ b → ⊥) → (q : Record) → readOf (set s i b) ≡ IsRecord q → ⊥
-one-byte s r i b p e h l n q f =
+pub changed-byte : (s : List ℕ) (r : Record) (i b : ℕ) → Bytes s → readOf s ≡ IsRecord r → i < recordLength → b < 256 → (getD s i 0 ≡ b → ⊥) → (q : Record) → readOf (set s i b) ≡ IsRecord q → ⊥
+changed-byte s r i b p e h l n q f =
     let v : WasRead s r = was-read s r e in
     let w : WasRead (set s i b) q = was-read (set s i b) q f in
     let k : i < length s = omega (arith, v .form .long) in

@@ -8,8 +8,8 @@ use native.Mathlib.Decide.{decLe}
 use borrow.Author.Tests.{ltb-false, le-ltb}
 use lib.Dec.{eqb, ltb}
 use lib.IntN.{ℤ, pos}
-use lib.ListN.{length, take, drop, length-drop}
-use lib.Seq.{take-all, length-take-le}
+use lib.ListN.{length, take, drop, length-append, length-drop}
+use lib.Seq.{take-all, length-take-le, drop-at}
 use Rattle.bigendian.specs.Numbers.{numberAt, signed32}
 use Rattle.bigendian.proofs.Numbers.{number-take, sum-take}
 use Rattle.clock.specs.declared.SplitAnswer.{SplitAnswer}
@@ -22,6 +22,7 @@ use Rattle.record.specs.declared.ReadAnswer.the-variants.{NoRecord}
 use Rattle.record.specs.Format.{recordLength, version, recordBytes}
 use Rattle.record.specs.Records.{writeRefusal, writeRefusalBy, written, writtenBy, formRefusal, readBy, readOf}
 use Rattle.record.proofs.Forms.{alike}
+use Rattle.record.proofs.Written.{record-length}
 
 -- what a buffer keeps
 pub record Keeps (refusal : ℕ) (old new : List ℕ) : Type 0 where
@@ -34,7 +35,7 @@ same n old = record { size = refl; behind = refl; all = λ x. refl }
 
 -- PROMISE. Writing keeps every byte past byte 29, and on a refusal every byte; the buffer stays as long as it is.
 pub write-keeps : (d : ℤ) (m : ℕ) (ut1 lod rate : ℤ) (old : List ℕ) → Keeps (writeRefusal d m (length old)) old (written d m ut1 lod rate old)
-unfolding writeRefusal written recordBytes
+unfolding writeRefusal written
 write-keeps d m ut1 lod rate old = by (splitOf d m)
   where
     by : (a : SplitAnswer) → Keeps (writeRefusalBy a (length old)) old (writtenBy a ut1 lod rate old)
@@ -44,9 +45,11 @@ write-keeps d m ut1 lod rate old = by (splitOf d m)
         at : (t : Bool) → ltb (length old) 30 ≡ t → Keeps (cond t 12 0) old (cond t old (recordBytes w ut1 lod rate ++ drop 30 old))
         at true p = same 12 old
         at false p =
+            let r : List ℕ = recordBytes w ut1 lod rate in
+            let l : length r ≡ recordLength = record-length w ut1 lod rate in
             record {
-              size = rw length-drop (omega (arith, ltb-false (length old) 30 p));
-              behind = refl;
+              size = rw (length-append, length-drop) (omega (arith, l, ltb-false (length old) 30 p));
+              behind = drop-at r (drop recordLength old) recordLength l;
               all = λ x. absurd (x refl);
             }
 

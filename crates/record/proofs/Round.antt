@@ -16,10 +16,11 @@ use Rattle.calendar.specs.Instants.{indexAt, IsAccepted}
 use Rattle.calendar.proofs.Index.{AcceptedAt, accepted-at}
 use Rattle.clock.specs.declared.ClockWords.{ClockWords}
 use Rattle.clock.specs.Words.{mark, timeWord, words}
-use Rattle.clock.proofs.Words.{split-accepted, split-then-join}
+use Rattle.clock.proofs.Words.{split-then-join}
 use Rattle.record.specs.declared.ReadAnswer.the-variants.{IsRecord}
 use Rattle.record.specs.Format.{recordLength, fieldBytes, negated, recordBytes}
 use Rattle.record.specs.Records.{written, readOf}
+use Rattle.record.proofs.Written.{written-is}
 use Rattle.record.proofs.Forms.{Formed, form-right, alike}
 
 -- the words of a record add to 0, wrapped
@@ -90,6 +91,4 @@ read-back d m ut1 lod rate rest a f g h =
 -- PROMISE. A record written into thirty bytes or more reads back as the instant and the three numbers, whatever stood there.
 pub read-written : (d : ℤ) (m : ℕ) (ut1 lod rate : ℤ) (old : List ℕ) → IsAccepted d m → recordLength ≤ length old → SFits w32 ut1 → SFits w32 lod → SFits w32 rate
     → readOf (written d m ut1 lod rate old) ≡ IsRecord (record { day = d; micros = m; ut1 = ut1; lod = lod; rate = rate })
-unfolding written
-read-written d m ut1 lod rate old a l f g h =
-    simp (split-accepted d m a, le-ltb (length old) 30 l) (read-back d m ut1 lod rate (drop 30 old) a f g h)
+read-written d m ut1 lod rate old a l f g h = rw (written-is d m ut1 lod rate old a l) (read-back d m ut1 lod rate (drop recordLength old) a f g h)

@@ -10,11 +10,11 @@ use lib.IntN.{ℤ, pos, negsuc, _-ℤ_}
 use lib.ListN.{length, take, drop}
 use mir.Syntax.{w32}
 use mir.Val.{SFits}
-use Rattle.calendar.specs.Instants.{indexAt}
+use Rattle.calendar.specs.Instants.{indexAt, IsAccepted}
 use Rattle.clock.specs.declared.ClockWords.{ClockWords}
 use Rattle.clock.specs.declared.SplitAnswer.the-variants.{Split, NoSplit}
-use Rattle.clock.specs.Words.{splitOf}
-use Rattle.clock.proofs.Words.{WasSplit, was-split}
+use Rattle.clock.specs.Words.{timeWord, words, splitOf}
+use Rattle.clock.proofs.Words.{WasSplit, was-split, split-accepted}
 use Rattle.record.specs.Format.{recordLength, recordBytes}
 use Rattle.record.specs.Records.{writeRefusal, written}
 
@@ -33,9 +33,18 @@ module _ (d : ℤ) (m : ℕ) (ut1 lod rate : ℤ) (old : List ℕ) where
   unfolding writeRefusal written recordBytes
   done w l e h q = simp (e, q, le-ltb (length old) 30 h) (refl, refl)
 
+pub record-length : (w : ClockWords) (ut1 lod rate : ℤ) → length (recordBytes w ut1 lod rate) ≡ recordLength
+unfolding recordBytes
+record-length w ut1 lod rate = refl
+
 pub thirty : (w : ClockWords) (ut1 lod rate : ℤ) (l : List ℕ) → l ≡ recordBytes w ut1 lod rate → length (take 30 l) ≡ 30
 unfolding recordBytes
 thirty w ut1 lod rate l q = ap (λ (k : List ℕ). length (take 30 k)) q
+
+-- the buffer after a record of an accepted instant
+pub written-is : (d : ℤ) (m : ℕ) (ut1 lod rate : ℤ) (old : List ℕ) → IsAccepted d m → recordLength ≤ length old → written d m ut1 lod rate old ≡ recordBytes (words d (timeWord d m)) ut1 lod rate ++ drop recordLength old
+unfolding written
+written-is d m ut1 lod rate old a h = simp (split-accepted d m a, le-ltb (length old) 30 h)
 
 -- the day word of an accepted instant, -94553 and later, fits 32 bits
 day-word : (i : ℕ) → i < 2147483648 → SFits w32 (pos i -ℤ pos 94553)

@@ -11,7 +11,8 @@ recordLength = 30
 abbrev pub version : ℕ
 version = 1
 
--- bytes 0 to 27: length, version, zero, the two clock words and the three numbers
+-- bytes 0 to 27, field by field: 0-1 the length, 2 the version, 3 zero, 4-7 the day word (an accepted one is not negative), 8-15 the time
+-- word, 16-19 UT1, 20-23 length of day, 24-27 rate
 abbrev pub fieldBytes : ClockWords → (ut1 lod rate : ℤ) → List ℕ
 fieldBytes w ut1 lod rate =
     bytesOf 2 recordLength
@@ -27,7 +28,7 @@ fieldBytes w ut1 lod rate =
 abbrev pub negated : ℕ → ℕ
 negated n = (65536 - n % 65536) % 65536
 
--- the thirty bytes: bytes 28 and 29 are the word that makes the fifteen words, added with wrapping, 0
+-- the thirty bytes: 28-29 hold the word with which all fifteen words add to 0, wrapped to 16 bits
 unfoldable pub recordBytes : ClockWords → (ut1 lod rate : ℤ) → List ℕ
 recordBytes w ut1 lod rate =
     fieldBytes w ut1 lod rate ++ bytesOf 2 (negated (wordSum (fieldBytes w ut1 lod rate) 14))

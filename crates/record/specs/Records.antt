@@ -19,7 +19,7 @@ use Rattle.record.specs.Format.{recordLength, version, recordBytes}
 
 -- ---- writing
 
--- 0, or the refusal of a record at the instant d, m in a buffer of n bytes: 8, 9, 12
+-- the refusal of writing into n bytes, 8 or 9 by the instant, then 12; 0 for none
 abbrev pub writeRefusalBy : SplitAnswer → ℕ → ℕ
 writeRefusalBy (NoSplit r) n = r
 writeRefusalBy (Split w) n = cond (ltb n recordLength) 12 0
@@ -27,7 +27,7 @@ writeRefusalBy (Split w) n = cond (ltb n recordLength) 12 0
 unfoldable pub writeRefusal : ℤ → ℕ → ℕ → ℕ
 writeRefusal d m n = writeRefusalBy (splitOf d m) n
 
--- the buffer's bytes afterwards: as they were on a refusal, else the record and what was behind it
+-- the buffer afterwards: as it was on a refusal, else the record and what stood behind it
 abbrev pub writtenBy : SplitAnswer → (ut1 lod rate : ℤ) → List ℕ → List ℕ
 writtenBy (NoSplit r) ut1 lod rate old = old
 writtenBy (Split w) ut1 lod rate old =
@@ -38,7 +38,7 @@ written d m ut1 lod rate old = writtenBy (splitOf d m) ut1 lod rate old
 
 -- ---- reading
 
--- 0, or the refusal of the form of the bytes s: 12, 14, 13, 15, 16
+-- the first refusal of the bytes' form, 12, 14, 13, 15 or 16; 0 for none
 unfoldable pub formRefusal : List ℕ → ℕ
 formRefusal s =
     cond (ltb (length s) recordLength) 12
@@ -48,7 +48,7 @@ formRefusal s =
     (cond (not (eqb (wordSum s 15 % 65536) 0)) 16
     0))))
 
--- an instant and the three numbers of s
+-- an instant with the three numbers in s
 abbrev pub recordOf : Instant → List ℕ → Record
 recordOf t s =
     record {
@@ -63,7 +63,7 @@ abbrev pub readBy : JoinAnswer → List ℕ → ReadAnswer
 readBy (NoJoin n) s = NoRecord n
 readBy (Joined t) s = IsRecord (recordOf t s)
 
--- the record that the bytes s begin with, or the refusal: of the form, then of the words, 8, 9, 10
+-- the record that the first thirty bytes of s are, or the refusal: of their form, then of the clock words, 8, 9 or 10
 unfoldable pub readOf : List ℕ → ReadAnswer
 readOf s =
     cond (eqb (formRefusal s) 0) (readBy (joinOf (pos (numberAt s 4 4)) (numberAt s 8 8)) s)
