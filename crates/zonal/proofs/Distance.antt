@@ -1,28 +1,27 @@
 -- The distance of our three numbers from the exact sums, on every day from 1600 to 2400. It is computed from two named numbers, `sineDistance` of the
 -- sine and `angleDistance` of the angle, and the table's weights.
 -- Assumes nothing.
-use mathlib.Core.Path.{_≡_, sym, subst}
+use mathlib.Core.Path.{_≡_}
 use Prim.Native.Nat.{ℕ, _+_, _*_, _^_, _≤_, _<_}
 use native.Mathlib.Nat as N
 use lib.Dec.{lit≤}
 use lib.IntN.{ℤ, pos, _-ℤ_, _*ℤ_}
 use Rattle.calendar.specs.Limits.{dayMicros}
 use Rattle.algebra.specs.Near.{Near}
-use Rattle.algebra.proofs.Near.{near-as, near-wide}
+use Rattle.algebra.proofs.Near.{near-wide}
 use Rattle.arguments.specs.Exact.{sinceJ2000, century, turnParts, exactAngle}
 use Rattle.arguments.specs.Ours.{moment, ourAngle}
 use Rattle.arguments.specs.Inner.{daysCovered}
 use Rattle.arguments.proofs.Distance.{angleDistance, angle-near, our-angle-less, exact-angle-less}
-use Rattle.sine.specs.Exact.{sineDen}
 use Rattle.sine.proofs.Series.{sineDen-some}
 use Rattle.sine.proofs.Distance.{SineNear, sineDistance, sine-near, cosine-near, rounded-near}
 use Rattle.zonal.specs.declared.Corrections.{Corrections}
-use Rattle.zonal.specs.Exact.{rows, coefficient, denominator, exactRowSine, exactRowCosine, exactUt1, exactLod, exactRate}
+use Rattle.zonal.specs.Exact.{rows, coefficient, denominator, exactRowSine, exactRowCosine}
 use Rattle.zonal.specs.Ours.{rowSine, rowCosine, rounded, correctionsAt}
 use Rattle.zonal.specs.Within.{Distances, distances, Within}
 use Rattle.zonal.proofs.Weighted.{weighted, columnWeight, sum-near, ut1-is, lod-is, rate-is}
 
--- what is shown of our numbers; more is promised nowhere
+-- the distances of our numbers
 abbrev pub proved : Distances
 proved = distances 3 18 2
 
@@ -30,7 +29,7 @@ proved = distances 3 18 2
 abbrev pub rowDistance : ℕ
 rowDistance = 64 * sineDistance + angleDistance
 
--- the sum over the column j and the next, times f and rounded to nearest, is within e
+-- a sum over the column j and the next, times f and rounded to nearest, is within e
 abbrev pub Room : (f j e : ℕ) → Type 0
 Room f j e = f * (columnWeight j rows * rowDistance) + 64 * 2 ^ 30 ≤ e * (64 * 2 ^ 31)
 
@@ -66,7 +65,7 @@ module _ (d : ℤ) (i m : ℕ) (hd : d ≡ pos i -ℤ pos 94553) (hi : i < daysC
       rounded-near f denominator (columnWeight j rows * rowDistance) e (weighted p q j rows) (weighted y z j rows) t
       (sum-near (λ r. coefficient r j) (λ r. coefficient r (j + 1)) denominator angleDistance p q y z rows (λ r h. (hp r h, hq r h)))
 
-  -- THE THEOREM of the distance
+  -- On the day of index i and day number d, at the microsecond m, the three numbers are within these distances of the exact sums.
   pub corrections-near : Within proved n (correctionsAt i m)
   unfolding correctionsAt
   corrections-near = record {

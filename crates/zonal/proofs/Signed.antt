@@ -1,6 +1,6 @@
 -- Signed numbers of 64 bits that stay small: what the machine reads back from their bits is the number.
 -- Assumes nothing.
-use mathlib.Core.Path.{_≡_, refl, sym, _∙_, ap, ap₂, subst}
+use mathlib.Core.Path.{_≡_, refl, sym, _∙_, ap₂, subst}
 use Prim.Native.Nat.{ℕ, _+_, _*_, _^_, _≤_, _<_}
 use native.Mathlib.Nat.{lt-of-le-of-lt}
 use lib.IntN.{ℤ, _+ℤ_, _*ℤ_, natAbs}

@@ -1,7 +1,6 @@
 -- How large the sums and the three numbers are: each sum fits 64 bits at every row, and each number 32 bits, at every moment.
 -- Assumes nothing.
-use mathlib.Core.Path.{_≡_, refl, sym, _∙_, ap}
-use Prim.Native.Nat.{ℕ, zero, suc, _+_, _*_, _-_, _/_, _^_, _≤_, _<_}
+use Prim.Native.Nat.{ℕ, zero, suc, _+_, _*_, _/_, _^_, _≤_, _<_}
 use native.Mathlib.Nat as N
 use native.Mathlib.Nat.{le-trans, le-of-eq, lt-of-le-of-lt}
 use native.Mathlib.Omega.{arith}
@@ -17,7 +16,7 @@ use Rattle.sine.proofs.Sizes as sizes
 use Rattle.sine.proofs.Sizes.{sineMost}
 use Rattle.zonal.specs.declared.Corrections.{Corrections}
 use Rattle.zonal.specs.Exact.{rows, coefficient, ut1Sum, lodSum, rateSum}
-use Rattle.zonal.specs.Ours.{rowSine, rowCosine, rounded, ourUt1, ourLod, ourRate, correctionsAt}
+use Rattle.zonal.specs.Ours.{rowSine, rowCosine, rounded, correctionsAt}
 use Rattle.zonal.specs.Inner.{sumMost, productMost}
 use Rattle.zonal.proofs.Weighted.{weighted, columnWeight, sum-small, ut1-is, lod-is, rate-is}
 
@@ -91,6 +90,7 @@ pub record Fit (c : Corrections) : Type 0 where
   pub lod : SFits w32 (c .lod)
   pub rate : SFits w32 (c .rate)
 
+-- PROMISE. The three numbers fit 32 bits with a sign, at any moment.
 pub corrections-fit : (i m : ℕ) → Fit (correctionsAt i m)
 unfolding correctionsAt
 corrections-fit i m = record {

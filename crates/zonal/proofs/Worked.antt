@@ -1,6 +1,6 @@
 -- The definitions at the test case of RG_ZONT2, day 54465, microsecond 0, computed; and that no constant is within the promised distances.
 -- Assumes nothing.
-use mathlib.Core.Path.{_≡_, refl, sym, ap, subst}
+use mathlib.Core.Path.{_≡_, refl, ap, subst}
 use mathlib.Core.Bool.{_&&_}
 use Prim.Native.Nat.{ℕ, _+_, _*_, _≤_, _<_}
 use native.Mathlib.Nat as N

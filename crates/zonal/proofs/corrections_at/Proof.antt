@@ -11,7 +11,6 @@ use mir.Val.{toZ, ofZ}
 use mir.Facts.{toZ-ofZ}
 use borrow.Author.Needs.{needs}
 use Rattle.arguments.specs.Ours.{moment}
-use Rattle.zonal.specs.declared.Corrections.{Corrections}
 use Rattle.zonal.specs.declared.Sums.{Sums}
 use Rattle.zonal.specs.Exact.{ut1Sum, lodSum, rateSum}
 use Rattle.zonal.specs.Ours.{rowSine, rowCosine, rounded, corrections, correctionsAt}

@@ -1,5 +1,5 @@
 -- `enfysgar::zonal_calls::enfys_zonal_rate` meets its contract. Assumes nothing.
-use mathlib.Core.Path.{_≡_, _∙_, ap, sym}
+use mathlib.Core.Path.{_∙_, ap, sym}
 use mir.Facts.{toZ-ofZ}
 use lib.IntN.{ℤ}
 use Rattle.zonal.specs.Ours.{zonalOf, rateOf}
