@@ -2,5 +2,5 @@ pub mod Signed
 pub mod Weighted
 pub mod Distance
 pub mod Sizes
-pub mod Answers
+pub mod Promises
 pub mod Worked

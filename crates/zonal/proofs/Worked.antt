@@ -23,7 +23,7 @@ use Rattle.zonal.specs.Exact.{ut1Sum, lodSum, rateSum, denominator, exac
 use Rattle.zonal.specs.Ours.{corrections, correctionsAt, zonalOf}
 use Rattle.zonal.specs.Within.{promised, Within}
 use Rattle.zonal.proofs.Distance.{proved}
-use Rattle.zonal.proofs.Answers.{accepted-near, accepted-given}
+use Rattle.zonal.proofs.Promises.{accepted-near, accepted-given}
 
 -- ---- the test case
 

@@ -1,5 +1,5 @@
 // Service (e): zonal-tide corrections to UT1, length of day and rotation rate, in 64-bit whole numbers.
-// Their distance from the exact sums is proved in proofs/Distance.antt.
+// Their distance from the exact sums is proved in proofs/Distance.antt, and promised in proofs/Promises.antt.
 mod table;
 
 use calendar::Acceptance;

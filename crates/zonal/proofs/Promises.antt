@@ -1,21 +1,21 @@
--- What is promised of every answer: its distance from the exact sums, and when there is none.
+-- What is promised of every answer: its distance from the exact sums, and its refusals.
 -- Assumes nothing.
 use mathlib.Core.Path.{_≡_, refl, sym, _∙_, ap}
-use mathlib.Core.Bool.{true, false}
-use Prim.Native.Nat.{ℕ, _≤_, _<_}
+use Prim.Native.Nat.{ℕ}
 use native.Mathlib.Omega.{arith}
 use lib.Dec.{lit≤}
 use lib.IntN.{ℤ}
-use borrow.Author.Tests.{le-leb}
 use Rattle.calendar.specs.declared.Acceptance.{Acceptance}
 use Rattle.calendar.specs.declared.Acceptance.the-variants.{Accepted, NotAccepted}
-use Rattle.calendar.specs.Limits.{dayMicros}
-use Rattle.calendar.specs.Instants.{outside, indexAt, acceptance, IsAccepted}
-use Rattle.calendar.proofs.Index.{AcceptedAt, accepted-at, accepted}
+use Rattle.calendar.specs.Refusals.{firstRefusal}
+use Rattle.calendar.specs.Instants.{indexAt, acceptance, IsAccepted, acceptanceRefusal}
+use Rattle.calendar.proofs.Cases.{no-case}
+use Rattle.calendar.proofs.Refusals.{instantCases, acceptance-refusal}
+use Rattle.calendar.proofs.Index.{AcceptedAt, accepted-at}
 use Rattle.arguments.specs.Exact.{sinceJ2000}
 use Rattle.zonal.specs.declared.Corrections.{Corrections}
-use Rattle.zonal.specs.declared.ZonalAnswer.the-variants.{Given, Refused}
-use Rattle.zonal.specs.Ours.{correctionsAt, zonalBy, zonalOf}
+use Rattle.zonal.specs.declared.ZonalAnswer.the-variants.{Given}
+use Rattle.zonal.specs.Ours.{correctionsAt, zonalBy, zonalOf, refusalOf}
 use Rattle.zonal.specs.Within.{promised, Within, Answered}
 use Rattle.zonal.proofs.Distance.{proved, corrections-near, within-wide}
 
@@ -44,23 +44,17 @@ unfolding zonalOf
 given-accepted d m c e = by (acceptance d m) refl e
   where
     by : (a : Acceptance) → acceptance d m ≡ a → zonalBy a m ≡ Given c → (a ≡ Accepted (indexAt d)) × (c ≡ correctionsAt (indexAt d) m)
-    by (NotAccepted n) p e = let w : _≡_ {A = ℕ} 0 1 = cc in let v : ⊥ = omega arith in absurd v
+    by (NotAccepted n) p e = no-case (cc)
     by (Accepted i) p e =
         let f : indexAt d ≡ i = accepted-at d m i p .index in
         let g : correctionsAt i m ≡ c = cc in
         (ap Accepted (sym f), sym g ∙ ap (λ (k : ℕ). correctionsAt k m) (sym f))
 
--- what is answered, by the two tests of an instant
-pub record AnsweredExactly (d : ℤ) (m : ℕ) : Type 0 where
-  pub far : outside d ≡ true → zonalOf d m ≡ Refused 8
-  pub late : outside d ≡ false → dayMicros ≤ m → zonalOf d m ≡ Refused 9
-  pub neither : outside d ≡ false → m < dayMicros → zonalOf d m ≡ Given (correctionsAt (indexAt d) m)
+refusal-by : (a : Acceptance) (m : ℕ) → refusalOf (zonalBy a m) ≡ acceptanceRefusal a
+refusal-by (Accepted i) m = refl
+refusal-by (NotAccepted n) m = refl
 
--- PROMISE. Refusal 8 is given exactly for a day number outside the range, and else refusal 9 exactly for microseconds of a whole day or more.
-pub answered-exactly : (d : ℤ) (m : ℕ) → AnsweredExactly d m
-unfolding zonalOf acceptance
-answered-exactly d m = record {
-  far = λ h. simp h;
-  late = λ h k. simp (h, le-leb dayMicros m k);
-  neither = λ h k. accepted-given d m (accepted d m h k);
-}
+-- PROMISE. The corrections are refused by the first of 8 and 9 that applies, and by nothing else.
+pub zonal-refusal : (d : ℤ) (m : ℕ) → refusalOf (zonalOf d m) ≡ firstRefusal (instantCases d m)
+unfolding zonalOf
+zonal-refusal d m = refusal-by (acceptance d m) m ∙ acceptance-refusal d m
