@@ -23,7 +23,7 @@ fn apart(a: i32, b: i32) -> u64 {
     if u < v { v - u } else { u - v }
 }
 
-// Our number, the routine's as it prints it and rounded to our unit, and the limit.
+// Our number, the routine's as it prints it and rounded to our unit, and the limit: the distance stays below it, so that the rounding counts.
 fn compare(name: &[u8], ours: i32, printed: &[u8], theirs: i32, limit: u64) {
     let distance = apart(ours, theirs);
     io::write_all(STDOUT_FILENO, name);
@@ -45,21 +45,21 @@ fn main() {
             compare(
                 b"UT1 ",
                 c.ut1,
-                b" ns, 7.983287678576557467E-002 s: ",
+                b" ns, RG_ZONT2 7.983287678576557467E-002 s: ",
                 79832877,
                 21,
             );
             compare(
                 b"length of day ",
                 c.lod,
-                b" ps, 5.035303035410713729E-005 s: ",
+                b" ps, RG_ZONT2 5.035303035410713729E-005 s: ",
                 50353030,
                 201,
             );
             compare(
                 b"rate ",
                 c.rate,
-                b" 10^-20 rad/s, -4.249711616463017E-014 rad/s: ",
+                b" 10^-20 rad/s, RG_ZONT2 -4.249711616463017E-014 rad/s: ",
                 -4249712,
                 21,
             );
