@@ -3,3 +3,4 @@ mod calendar_calls;
 mod clock_calls;
 mod record_calls;
 mod tide_calls;
+mod zonal_calls;

@@ -1,0 +1,85 @@
+-- The distance of our three numbers from the exact sums, on every day from 1600 to 2400. It is computed from two named numbers, `sineDistance` of the
+-- sine and `angleDistance` of the angle, and the table's weights.
+-- Assumes nothing.
+use mathlib.Core.Path.{_≡_}
+use Prim.Native.Nat.{ℕ, _+_, _*_, _^_, _≤_, _<_}
+use native.Mathlib.Nat as N
+use lib.Dec.{lit≤}
+use lib.IntN.{ℤ, pos, _-ℤ_, _*ℤ_}
+use Rattle.calendar.specs.Limits.{dayMicros}
+use Rattle.algebra.specs.Near.{Near}
+use Rattle.algebra.proofs.Near.{near-wide}
+use Rattle.arguments.specs.Exact.{sinceJ2000, century, turnParts, exactAngle}
+use Rattle.arguments.specs.Ours.{moment, ourAngle}
+use Rattle.arguments.specs.Inner.{daysCovered}
+use Rattle.arguments.proofs.Distance.{angleDistance, angle-near, our-angle-less, exact-angle-less}
+use Rattle.sine.proofs.Series.{sineDen-some}
+use Rattle.sine.proofs.Distance.{SineNear, sineDistance, sine-near, cosine-near, rounded-near}
+use Rattle.zonal.specs.declared.Corrections.{Corrections}
+use Rattle.zonal.specs.Exact.{rows, coefficient, denominator, exactRowSine, exactRowCosine}
+use Rattle.zonal.specs.Ours.{rowSine, rowCosine, rounded, correctionsAt}
+use Rattle.zonal.specs.Within.{Distances, distances, Within}
+use Rattle.zonal.proofs.Weighted.{weighted, columnWeight, sum-near, ut1-is, lod-is, rate-is}
+
+-- the distances of our numbers
+abbrev pub proved : Distances
+proved = distances 3 18 2
+
+-- 64 times the distance of a row's sine or cosine, in units of 2^-31
+abbrev pub rowDistance : ℕ
+rowDistance = 64 * sineDistance + angleDistance
+
+-- a sum over the column j and the next, times f and rounded to nearest, is within e
+abbrev pub Room : (f j e : ℕ) → Type 0
+Room f j e = f * (columnWeight j rows * rowDistance) + 64 * 2 ^ 30 ≤ e * (64 * 2 ^ 31)
+
+-- the computed test
+room : Room 10 0 (proved .ut1) × Room 1000 2 (proved .lod) × Room 100 4 (proved .rate)
+room = (lit≤ tt, lit≤ tt, lit≤ tt)
+
+quarter : ℕ
+quarter = 900_000_000_000 * century ^ 4
+
+module _ (d : ℤ) (i m : ℕ) (hd : d ≡ pos i -ℤ pos 94553) (hi : i < daysCovered) (hm : m < dayMicros) where
+  abbrev x : ℕ
+  x = moment i m
+
+  abbrev n : ℤ
+  n = sinceJ2000 d m
+
+  -- a row's sine and cosine
+  row-sine : (r : ℕ) → r < rows → SineNear (rowSine x r) (exactRowSine n r) denominator angleDistance
+  unfolding quarter
+  row-sine r h = sine-near quarter (exactAngle r n) (ourAngle r x) angleDistance (lit≤ tt) (exact-angle-less r n) (our-angle-less r x) (angle-near d i m r hd hi hm h)
+
+  row-cosine : (r : ℕ) → r < rows → SineNear (rowCosine x r) (exactRowCosine n r) denominator angleDistance
+  unfolding quarter
+  row-cosine r h = cosine-near quarter (exactAngle r n) (ourAngle r x) angleDistance (lit≤ tt) (exact-angle-less r n) (our-angle-less r x) (angle-near d i m r hd hi hm h)
+
+  -- one number
+  number-near : (f j e : ℕ) (p q y z : ℕ → ℤ) → Room f j e
+      → ((r : ℕ) → r < rows → SineNear (p r) (y r) denominator angleDistance) → ((r : ℕ) → r < rows → SineNear (q r) (z r) denominator angleDistance)
+      → Near (rounded (pos f) (weighted p q j rows) *ℤ pos denominator) (pos f *ℤ weighted y z j rows) (e * denominator)
+  unfolding weighted
+  number-near f j e p q y z t hp hq =
+      rounded-near f denominator (columnWeight j rows * rowDistance) e (weighted p q j rows) (weighted y z j rows) t
+      (sum-near (λ r. coefficient r j) (λ r. coefficient r (j + 1)) denominator angleDistance p q y z rows (λ r h. (hp r h, hq r h)))
+
+  -- On the day of index i and day number d, at the microsecond m, the three numbers are within these distances of the exact sums.
+  pub corrections-near : Within proved n (correctionsAt i m)
+  unfolding correctionsAt
+  corrections-near = record {
+    some = sineDen-some turnParts (lit≤ tt);
+    ut1 = rw (ut1-is (rowSine x) (rowCosine x), ut1-is (exactRowSine n) (exactRowCosine n)) (number-near 10 0 (proved .ut1) (rowSine x) (rowCosine x) (exactRowSine n) (exactRowCosine n) (room .0) row-sine row-cosine);
+    lod = rw (lod-is (rowSine x) (rowCosine x), lod-is (exactRowSine n) (exactRowCosine n)) (number-near 1000 2 (proved .lod) (rowCosine x) (rowSine x) (exactRowCosine n) (exactRowSine n) (room .1) row-cosine row-sine);
+    rate = rw (rate-is (rowSine x) (rowCosine x), rate-is (exactRowSine n) (exactRowCosine n)) (number-near 100 4 (proved .rate) (rowCosine x) (rowSine x) (exactRowCosine n) (exactRowSine n) (room .2) row-cosine row-sine);
+  }
+
+-- a wider distance
+pub within-wide : {e e′ : Distances} {n : ℤ} {c : Corrections} → e .ut1 ≤ e′ .ut1 → e .lod ≤ e′ .lod → e .rate ≤ e′ .rate → Within e n c → Within e′ n c
+within-wide h k l w = record {
+  some = w .some;
+  ut1 = near-wide (w .ut1) (N.mul-le-mul-right denominator h);
+  lod = near-wide (w .lod) (N.mul-le-mul-right denominator k);
+  rate = near-wide (w .rate) (N.mul-le-mul-right denominator l);
+}

@@ -1,0 +1,6 @@
+pub mod Signed
+pub mod Weighted
+pub mod Distance
+pub mod Sizes
+pub mod Promises
+pub mod Worked

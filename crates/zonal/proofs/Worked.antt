@@ -1,0 +1,117 @@
+-- The definitions at the test case of RG_ZONT2, day 54465, microsecond 0, computed; and that no constant is within the promised distances.
+-- Assumes nothing.
+use mathlib.Core.Path.{_≡_, refl, ap, subst}
+use mathlib.Core.Bool.{_&&_}
+use Prim.Native.Nat.{ℕ, _+_, _*_, _≤_, _<_}
+use native.Mathlib.Nat as N
+use native.Mathlib.Omega.{arith}
+use lib.Dec.{T, lit≤}
+use lib.IntN.{ℤ, pos, _-ℤ_, _*ℤ_, natAbs, pow, one}
+use lib.Signed.{quotZ}
+use Rattle.algebra.specs.Integers.{+_, −_}
+use Rattle.algebra.specs.Near.{Near}
+use Rattle.algebra.proofs.Polynomial.{eqℤ}
+use Rattle.algebra.proofs.Ring.{end, _▸_, ring, quote}
+use Rattle.algebra.proofs.Near.{near-as, near-sym, near-trans, near-unscale}
+use Rattle.calendar.specs.Instants.{outside, indexAt, acceptance, IsAccepted}
+use Rattle.arguments.specs.Exact.{sinceJ2000}
+use Rattle.sine.specs.Exact.{S, sineDen, wholeTurn, exactSine, exactCosine}
+use Rattle.sine.specs.Ours.{nested, sineQuarter, quarterTurn, ourSine, ourCosine}
+use Rattle.zonal.specs.declared.Corrections.{Corrections}
+use Rattle.zonal.specs.declared.ZonalAnswer.the-variants.{Given}
+use Rattle.zonal.specs.Exact.{ut1Sum, lodSum, rateSum, denominator, exactUt1, exactLod, exactRate}
+use Rattle.zonal.specs.Ours.{corrections, correctionsAt, zonalOf}
+use Rattle.zonal.specs.Within.{promised, Within}
+use Rattle.zonal.proofs.Distance.{proved}
+use Rattle.zonal.proofs.Promises.{accepted-near, accepted-given}
+
+-- ---- the test case
+
+-- it is accepted, and so is the day after
+pub case-accepted : IsAccepted (+ 54465) 0
+unfolding acceptance outside indexAt
+case-accepted = refl
+
+pub next-accepted : IsAccepted (+ 54466) 0
+unfolding acceptance outside indexAt
+next-accepted = refl
+
+-- a thousand times an exact sum, towards zero
+pub thousandths : ℤ → ℤ
+thousandths x = quotZ (x *ℤ + 1000) (pos denominator)
+
+-- The exact sums: 79832876.785 ns, 50353030.354 ps and -4249711.616 units. RG_ZONT2 has 7.983287678576557467E-002 s, 5.035303035410713729E-005 s
+-- and -4.249711616463017E-014 rad/s.
+pub exact-case : T (eqℤ (thousandths (exactUt1 (sinceJ2000 (+ 54465) 0))) (+ 79832876785)
+    && eqℤ (thousandths (exactLod (sinceJ2000 (+ 54465) 0))) (+ 50353030354)
+    && eqℤ (thousandths (exactRate (sinceJ2000 (+ 54465) 0))) (− 4249711616))
+unfolding thousandths ut1Sum lodSum rateSum exactSine exactCosine wholeTurn S sineDen pow one
+exact-case = tt
+
+-- ours, there and a day later
+our-case : correctionsAt 149018 0 ≡ corrections (+ 79832877) (+ 50353031) (− 4249712)
+unfolding correctionsAt ut1Sum lodSum rateSum ourSine ourCosine wholeTurn quarterTurn sineQuarter nested
+our-case = refl
+
+our-next : correctionsAt 149019 0 ≡ corrections (+ 79837323) (− 67358353) (+ 5684997)
+unfolding correctionsAt ut1Sum lodSum rateSum ourSine ourCosine wholeTurn quarterTurn sineQuarter nested
+our-next = refl
+
+-- PROMISE. Our answer to the test case of RG_ZONT2.
+pub case-answered : zonalOf (+ 54465) 0 ≡ Given (corrections (+ 79832877) (+ 50353031) (− 4249712))
+unfolding indexAt
+case-answered = rw (accepted-given (+ 54465) 0 case-accepted) (ap Given our-case)
+
+-- ---- constants
+
+-- two numbers near one exact sum are near one another
+numbers-near : (D a b : ℕ) (x y z : ℤ) → 0 < D → Near (x *ℤ pos D) z (a * D) → Near (y *ℤ pos D) z (b * D) → Near x y (a + b)
+numbers-near D a b x y z h n m = near-unscale D (near-as (near-trans n (near-sym m)) (alg x (pos D)) (alg y (pos D)) (error a b D)) h
+  where
+    alg : (x d : ℤ) → d *ℤ x ≡ x *ℤ d
+    alg x d = ring (x ▸ d ▸ end) (search quote depth 13) tt
+
+    error : (a b d : ℕ) → a * d + b * d ≤ d * (a + b) + 0
+    error a b d = omega arith
+
+-- so numbers within the promised distances are near ours
+pub record NearOurs (c : Corrections) (a b r : ℤ) : Type 0 where
+  pub ut1 : Near (c .ut1) a (promised .ut1 + proved .ut1)
+  pub lod : Near (c .lod) b (promised .lod + proved .lod)
+  pub rate : Near (c .rate) r (promised .rate + proved .rate)
+
+near-ours : (d : ℤ) (m : ℕ) (c : Corrections) (a b r : ℤ) → IsAccepted d m → correctionsAt (indexAt d) m ≡ corrections a b r → Within promised (sinceJ2000 d m) c → NearOurs c a b r
+near-ours d m c a b r h e w =
+    let o : Within proved (sinceJ2000 d m) (corrections a b r) = subst (λ (s : Corrections). Within proved (sinceJ2000 d m) s) e (accepted-near d m h) in
+    record {
+      ut1 = numbers-near denominator (promised .ut1) (proved .ut1) (c .ut1) a (exactUt1 (sinceJ2000 d m)) (w .some) (w .ut1) (o .ut1);
+      lod = numbers-near denominator (promised .lod) (proved .lod) (c .lod) b (exactLod (sinceJ2000 d m)) (w .some) (w .lod) (o .lod);
+      rate = numbers-near denominator (promised .rate) (proved .rate) (c .rate) r (exactRate (sinceJ2000 d m)) (w .some) (w .rate) (o .rate);
+    }
+
+case-near : (c : Corrections) → Within promised (sinceJ2000 (+ 54465) 0) c → NearOurs c (+ 79832877) (+ 50353031) (− 4249712)
+unfolding indexAt
+case-near c w = near-ours (+ 54465) 0 c (+ 79832877) (+ 50353031) (− 4249712) case-accepted our-case w
+
+next-near : (c : Corrections) → Within promised (sinceJ2000 (+ 54466) 0) c → NearOurs c (+ 79837323) (− 67358353) (+ 5684997)
+unfolding indexAt
+next-near c w = near-ours (+ 54466) 0 c (+ 79837323) (− 67358353) (+ 5684997) next-accepted our-next w
+
+-- one number is not near two that are far apart
+apart : {e : ℕ} (x y z : ℤ) → Near x y e → Near x z e → e + e < natAbs (y -ℤ z) → ⊥
+apart x y z n m h = N.lt-irrefl _ (N.lt-of-lt-of-le h (near-trans (near-sym n) m .by))
+
+-- PROMISE. Numbers within the promised distances on day 54465 and on day 54466, at microsecond 0, differ in each of the three: no constant is within them.
+pub no-constant : (c c′ : Corrections) → Within promised (sinceJ2000 (+ 54465) 0) c → Within promised (sinceJ2000 (+ 54466) 0) c′
+    → (c .ut1 ≡ c′ .ut1 → ⊥) × (c .lod ≡ c′ .lod → ⊥) × (c .rate ≡ c′ .rate → ⊥)
+no-constant c c′ w w′ =
+    let n : NearOurs c (+ 79832877) (+ 50353031) (− 4249712) = case-near c w in
+    let m : NearOurs c′ (+ 79837323) (− 67358353) (+ 5684997) = next-near c′ w′ in (
+      λ e. apart (c .ut1) (+ 79832877) (+ 79837323) (n .ut1) (rw e (m .ut1)) (lit≤ tt),
+      λ e. apart (c .lod) (+ 50353031) (− 67358353) (n .lod) (rw e (m .lod)) (lit≤ tt),
+      λ e. apart (c .rate) (− 4249712) (+ 5684997) (n .rate) (rw e (m .rate)) (lit≤ tt),
+    )
+
+-- PROMISE. Zeros are not within the promised distances on day 54465.
+pub no-zeros : Within promised (sinceJ2000 (+ 54465) 0) (corrections (+ 0) (+ 0) (+ 0)) → ⊥
+no-zeros w = N.lt-irrefl _ (N.lt-of-le-of-lt (case-near (corrections (+ 0) (+ 0) (+ 0)) w .ut1 .by) (lit≤ tt))

@@ -1,0 +1,48 @@
+-- `zonal::zonal_of` meets its contract, by the two cases of acceptance.
+-- Assumes nothing.
+use mathlib.Core.Path.{_≡_, sym, _∙_, ap}
+use native.Mathlib.Omega.{arith}
+use lib.IntN.{ℤ}
+use mir.Facts.{toZ-ofZ}
+use borrow.Author.Needs.{needs}
+use Rattle.calendar.specs.declared.Acceptance.the-variants.{Accepted}
+use Rattle.calendar.specs.Instants.{acceptance}
+use Rattle.calendar.proofs.Index.{AcceptedAt, accepted-at}
+use Rattle.zonal.specs.declared.ZonalAnswer.the-variants.{Given}
+use Rattle.zonal.specs.Ours.{zonalOf}
+use Rattle.zonal.proofs.zonal_of.Statement.{statement}
+use Rattle.zonal.proofs.zonal_of.Tie as tie
+
+says : (c : tie.After-accept) → c .accept .result ≡ acceptance (c .before .args .day) (c .before .args .micros)
+says c = c .accept .ensures ∙ ap (λ (d : ℤ). acceptance d (c .before .args .micros)) (toZ-ofZ (c .before .fits .day))
+
+found : (c : tie.After-known-told2) → acceptance (c .before .before .before .before .args .day) (c .before .before .before .before .args .micros) ≡ Accepted (c .before .i .given .0 .0)
+found c = sym (says (c .before .before .before)) ∙ c .before .i .given .1
+
+known : (c : tie.After-known-told2) → AcceptedAt (c .before .before .before .before .args .day) (c .before .before .before .before .args .micros) (c .before .i .given .0 .0)
+known c = accepted-at _ _ _ (found c)
+
+accept-requires : tie.Need-accept-requires
+accept-requires c κs = search needs
+
+enum-known-n : tie.Need-enum-known-n
+enum-known-n c = search needs
+
+enum-known-i : tie.Need-enum-known-i
+enum-known-i c = search needs
+
+corrections-at-requires : tie.Need-corrections-at-requires
+corrections-at-requires c κs = (omega (arith, known c .high), known c .less)
+
+returns : tie.Need-returns
+unfolding zonalOf
+returns c = rw (sym (says (c .before .before .before)) ∙ c .before .n .given .1)
+
+returns-2 : tie.Need-returns-2
+unfolding zonalOf
+returns-2 c = rw (found (c .before)) (ap Given (c .corrections-at .ensures))
+
+pub zonal-of-spec : {M : Type 1} → statement M
+zonal-of-spec =
+    tie.close
+    (tie.spec accept-requires enum-known-n enum-known-i corrections-at-requires returns returns-2)

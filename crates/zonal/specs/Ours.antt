@@ -1,0 +1,70 @@
+-- Our corrections: three whole numbers, and the answer for every day number and every number of microseconds.
+-- Assumes nothing.
+use Prim.Native.Nat.{ℕ, _^_}
+use lib.IntN.{ℤ, _+ℤ_, _*ℤ_}
+use lib.Signed.{shrZ}
+use Rattle.algebra.specs.Integers.{+_}
+use Rattle.calendar.specs.declared.Acceptance.{Acceptance}
+use Rattle.calendar.specs.declared.Acceptance.the-variants.{Accepted, NotAccepted}
+use Rattle.calendar.specs.Instants.{acceptance}
+use Rattle.arguments.specs.Ours.{moment, ourAngle}
+use Rattle.sine.specs.Ours.{ourSine, ourCosine}
+use Rattle.zonal.specs.declared.Corrections.{Corrections}
+use Rattle.zonal.specs.declared.ZonalAnswer.{ZonalAnswer}
+use Rattle.zonal.specs.declared.ZonalAnswer.the-variants.{Given, Refused}
+use Rattle.zonal.specs.Exact.{ut1Sum, lodSum, rateSum}
+
+-- our sine and cosine of the row r at the moment x, in units of 2^-31
+abbrev pub rowSine : ℕ → ℕ → ℤ
+rowSine x r = ourSine (ourAngle r x)
+
+abbrev pub rowCosine : ℕ → ℕ → ℤ
+rowCosine x r = ourCosine (ourAngle r x)
+
+-- f times a sum in units of 2^-31, to the nearest whole number: half a unit is added, and the quotient rounded down
+abbrev pub rounded : ℤ → ℤ → ℤ
+rounded f v = shrZ (f *ℤ v +ℤ + (2 ^ 30)) (2 ^ 31)
+
+-- UT1 at the moment x, in nanoseconds
+abbrev pub ourUt1 : ℕ → ℤ
+ourUt1 x = rounded (+ 10) (ut1Sum (rowSine x) (rowCosine x))
+
+-- length of day, in picoseconds
+abbrev pub ourLod : ℕ → ℤ
+ourLod x = rounded (+ 1000) (lodSum (rowSine x) (rowCosine x))
+
+-- rate, in units of 10^-20 radian per second
+abbrev pub ourRate : ℕ → ℤ
+ourRate x = rounded (+ 100) (rateSum (rowSine x) (rowCosine x))
+
+abbrev pub corrections : (ut1 lod rate : ℤ) → Corrections
+corrections a b c = record { ut1 = a; lod = b; rate = c }
+
+-- the three numbers on the day of index i, counted from 1600-01-01, at the microsecond m
+unfoldable pub correctionsAt : ℕ → ℕ → Corrections
+correctionsAt i m = corrections (ourUt1 (moment i m)) (ourLod (moment i m)) (ourRate (moment i m))
+
+-- the answer: the three numbers of an accepted instant, or its refusal, 8 or 9
+abbrev pub zonalBy : Acceptance → ℕ → ZonalAnswer
+zonalBy (Accepted i) m = Given (correctionsAt i m)
+zonalBy (NotAccepted n) m = Refused n
+
+unfoldable pub zonalOf : ℤ → ℕ → ZonalAnswer
+zonalOf d m = zonalBy (acceptance d m) m
+
+-- the numbers that the exported calls give for an answer
+abbrev pub ut1Of : ZonalAnswer → ℤ
+ut1Of (Given c) = c .ut1
+ut1Of (Refused n) = + 0
+
+abbrev pub lodOf : ZonalAnswer → ℤ
+lodOf (Given c) = c .lod
+lodOf (Refused n) = + 0
+
+abbrev pub rateOf : ZonalAnswer → ℤ
+rateOf (Given c) = c .rate
+rateOf (Refused n) = + 0
+
+abbrev pub refusalOf : ZonalAnswer → ℕ
+refusalOf (Given c) = 0
+refusalOf (Refused n) = n
