@@ -22,6 +22,15 @@ use Rattle.tide.specs.Tidal as tide
 use Rattle.tide.specs.declared.Answer as tideAnswer
 use Rattle.tide.specs.declared.Answer.the-variants as tideCase
 use Rattle.tide.proofs.Promises.{tide-refusal}
+use Rattle.zonal.specs.Ours as zonal
+use Rattle.zonal.specs.declared.ZonalAnswer.{ZonalAnswer}
+use Rattle.zonal.specs.declared.ZonalAnswer.the-variants as zonalCase
+use Rattle.zonal.proofs.Promises.{zonal-refusal}
+use Rattle.record.specs.Records.{recordDayOf, recordMicrosOf, recordUt1Of, recordLodOf, recordRateOf, readRefusalOf}
+use Rattle.record.specs.declared.ReadAnswer.{ReadAnswer}
+use Rattle.record.specs.declared.ReadAnswer.the-variants.{IsRecord, NoRecord}
+use Rattle.record.proofs.Refusals.{write-refusal, read-refusal}
+use Rattle.record.proofs.Kept.{write-keeps}
 use Rattle.promises.specs.AnyInput.{ZeroBeside, AnyInputIsAnswered}
 
 -- beside a success nothing is claimed
@@ -52,6 +61,20 @@ tide-zero : (a : tideAnswer.Answer) → ZeroBeside tide.refusalOf tide.frequency
 tide-zero (tideCase.Given x) = (given, given)
 tide-zero (tideCase.Refused n) = (λ _. refl, λ _. refl)
 
+zonal-zero : (a : ZonalAnswer)
+    → ZeroBeside zonal.refusalOf zonal.ut1Of (pos 0) a × ZeroBeside zonal.refusalOf zonal.lodOf (pos 0) a × ZeroBeside zonal.refusalOf zonal.rateOf (pos 0) a
+zonal-zero (zonalCase.Given c) = (given, given, given)
+zonal-zero (zonalCase.Refused n) = (λ _. refl, λ _. refl, λ _. refl)
+
+read-zero : (a : ReadAnswer)
+    → ZeroBeside readRefusalOf recordDayOf (pos 0) a
+    × ZeroBeside readRefusalOf recordMicrosOf 0 a
+    × ZeroBeside readRefusalOf recordUt1Of (pos 0) a
+    × ZeroBeside readRefusalOf recordLodOf (pos 0) a
+    × ZeroBeside readRefusalOf recordRateOf (pos 0) a
+read-zero (IsRecord r) = (given, given, given, given, given)
+read-zero (NoRecord n) = (λ _. refl, λ _. refl, λ _. refl, λ _. refl, λ _. refl)
+
 -- PROMISE. Demand 1: any input is answered.
 pub any-input-is-answered : AnyInputIsAnswered
 any-input-is-answered = record {
@@ -67,4 +90,10 @@ any-input-is-answered = record {
   join-zero = join-zero;
   phase = tide-refusal;
   phase-zero = tide-zero;
+  corrections = zonal-refusal;
+  corrections-zero = zonal-zero;
+  record-write = write-refusal;
+  record-write-keeps = λ d m ut1 lod rate old. write-keeps d m ut1 lod rate old .all;
+  record-read = read-refusal;
+  record-read-zero = read-zero;
 }

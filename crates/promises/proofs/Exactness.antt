@@ -3,6 +3,10 @@ use Rattle.calendar.proofs.Inverse.{there-and-back, back-and-there, has-date, n
 use Rattle.calendar.proofs.Times.{instant-accepted}
 use Rattle.clock.proofs.Words.{split-accepted, split-then-join, JoinedExactly, joined-exactly}
 use Rattle.tide.proofs.Promises.{frequency-finite, phase-in-turn, zeros-give-zero}
+use Rattle.record.proofs.Round.{read-written}
+use Rattle.record.proofs.Again.{written-again}
+use Rattle.record.proofs.Kept.{write-keeps, read-front}
+use Rattle.record.proofs.Changed.{changed-byte}
 use Rattle.promises.specs.Exactness.{Exactness}
 
 -- PROMISE. Demand 2: exactness.
@@ -18,4 +22,9 @@ exactness = record {
   frequency-finite = frequency-finite;
   phase-in-turn = phase-in-turn;
   zeros-give-zero = zeros-give-zero;
+  record-reads-back = read-written;
+  record-written-again = written-again;
+  record-reads-front = read-front;
+  record-keeps-behind = λ d m ut1 lod rate old. (write-keeps d m ut1 lod rate old .size, write-keeps d m ut1 lod rate old .behind);
+  record-changed = changed-byte;
 }

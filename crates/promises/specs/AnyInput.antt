@@ -4,9 +4,10 @@
 use Prim.Native.Nat.{ℕ, _/_, _%_}
 use mathlib.Core.Path.{_≡_}
 use mathlib.Core.Bool.{not, _||_}
-use mathlib.Core.List.{[], _∷_}
+use mathlib.Core.List.{List, [], _∷_}
 use lib.Dec.{ltb, leb, eqb}
 use lib.IntN.{ℤ, pos}
+use lib.ListN.{length}
 use Rattle.calendar.specs.Limits.{firstYear, lastYear, dayMicros}
 use Rattle.calendar.specs.Refusals.{case, firstRefusal}
 use Rattle.calendar.specs.Instants.{outside}
@@ -22,6 +23,12 @@ use Rattle.tide.specs.Binary64.{zero64}
 use Rattle.tide.specs.Tidal as tide
 use Rattle.tide.specs.declared.Doodson.{Doodson}
 use Rattle.tide.specs.declared.Answer as tideAnswer
+use Rattle.zonal.specs.Ours as zonal
+use Rattle.zonal.specs.declared.ZonalAnswer.{ZonalAnswer}
+use Rattle.bigendian.specs.Numbers.{numberAt, wordSum}
+use Rattle.record.specs.Format.{recordLength, version}
+use Rattle.record.specs.Records.{writeRefusal, written, readOf, recordDayOf, recordMicrosOf, recordUt1Of, recordLodOf, recordRateOf, readRefusalOf}
+use Rattle.record.specs.declared.ReadAnswer.{ReadAnswer}
 
 -- beside a refusal of the answer a, its number `value` is `zero`
 abbrev pub ZeroBeside : {A B : Type 0} → (A → ℕ) → (A → B) → B → A → Type 0
@@ -50,3 +57,28 @@ pub record AnyInputIsAnswered : Type 0 where
   pub phase : (d : ℤ) (m : ℕ) (k : Doodson) → tide.refusalOf (tide.tideOf d m k)
       ≡ firstRefusal (case 8 (outside d) ∷ case 9 (leb dayMicros m) ∷ case 11 (not (tide.allInRange k)) ∷ [])
   pub phase-zero : (a : tideAnswer.Answer) → ZeroBeside tide.refusalOf tide.frequencyOf zero64 a × ZeroBeside tide.refusalOf tide.phaseOf zero64 a
+  -- (e)
+  pub corrections : (d : ℤ) (m : ℕ) → zonal.refusalOf (zonal.zonalOf d m) ≡ firstRefusal (case 8 (outside d) ∷ case 9 (leb dayMicros m) ∷ [])
+  pub corrections-zero : (a : ZonalAnswer)
+      → ZeroBeside zonal.refusalOf zonal.ut1Of (pos 0) a × ZeroBeside zonal.refusalOf zonal.lodOf (pos 0) a × ZeroBeside zonal.refusalOf zonal.rateOf (pos 0) a
+  -- (g), one record
+  pub record-write : (d : ℤ) (m n : ℕ) → writeRefusal d m n
+      ≡ firstRefusal (case 8 (outside d) ∷ case 9 (leb dayMicros m) ∷ case 12 (ltb n recordLength) ∷ [])
+  pub record-write-keeps : (d : ℤ) (m : ℕ) (ut1 lod rate : ℤ) (old : List ℕ) → (writeRefusal d m (length old) ≡ 0 → ⊥) → written d m ut1 lod rate old ≡ old
+  pub record-read : (s : List ℕ) → readRefusalOf (readOf s)
+      ≡ firstRefusal
+      (case 12 (ltb (length s) recordLength)
+      ∷ case 14 (not (eqb (numberAt s 2 1) version))
+      ∷ case 13 (not (eqb (numberAt s 0 2) recordLength))
+      ∷ case 15 (not (eqb (numberAt s 3 1) 0))
+      ∷ case 16 (not (eqb (wordSum s 15 % 65536) 0))
+      ∷ case 8 (outside (pos (numberAt s 4 4)))
+      ∷ case 9 (leb dayMicros (numberAt s 8 8 % markUnit))
+      ∷ case 10 (not (eqb (numberAt s 8 8 / markUnit) (mark (pos (numberAt s 4 4)))))
+      ∷ [])
+  pub record-read-zero : (a : ReadAnswer)
+      → ZeroBeside readRefusalOf recordDayOf (pos 0) a
+      × ZeroBeside readRefusalOf recordMicrosOf 0 a
+      × ZeroBeside readRefusalOf recordUt1Of (pos 0) a
+      × ZeroBeside readRefusalOf recordLodOf (pos 0) a
+      × ZeroBeside readRefusalOf recordRateOf (pos 0) a

@@ -1,8 +1,12 @@
 -- Demand 2: exactness. Dates each way; frequency and phase; records read back; clock words joined exactly when they are of one day.
-use Prim.Native.Nat.{ℕ, _<_}
+use Prim.Native.Nat.{ℕ, _≤_, _<_}
 use mathlib.Core.Path.{_≡_}
 use mathlib.Core.Bool.{false}
+use mathlib.Core.List.{List, _++_}
 use lib.IntN.{ℤ, pos, _+ℤ_, _-ℤ_, natAbs}
+use lib.ListN.{length, take, drop, getD, set}
+use mir.Syntax.{w32}
+use mir.Val.{SFits}
 use Rattle.calendar.specs.Instants.{instant, outside, indexAt, IsAccepted}
 use Rattle.calendar.specs.Dates.{date, next, dateAfter, dayOf, dateOf}
 use Rattle.calendar.specs.Times.{instantOf}
@@ -19,6 +23,15 @@ use Rattle.tide.specs.Tidal.{tideOf, frequencyOf, phaseOf, doodson}
 use Rattle.tide.specs.Claims.{Finite, InTurn}
 use Rattle.tide.specs.declared.Doodson.{Doodson}
 use Rattle.tide.specs.declared.Answer.the-variants as tideCase
+use Rattle.bigendian.specs.Numbers.{Bytes}
+use Rattle.record.specs.Format.{recordLength}
+use Rattle.record.specs.Records.{writeRefusal, written, readOf}
+use Rattle.record.specs.declared.Record.{Record}
+use Rattle.record.specs.declared.ReadAnswer.the-variants.{IsRecord}
+
+-- a record's five fields
+abbrev pub fields : (d : ℤ) (m : ℕ) (ut1 lod rate : ℤ) → Record
+fields d m ut1 lod rate = record { day = d; micros = m; ut1 = ut1; lod = lod; rate = rate }
 
 pub record Exactness : Type 0 where
   -- (a) the date of a date's day number is that date, and the day number of a day number's date is that day number
@@ -40,3 +53,16 @@ pub record Exactness : Type 0 where
   pub phase-in-turn : (d : ℤ) (m : ℕ) (k : Doodson) → InTurn (phaseOf (tideOf d m k))
   pub zeros-give-zero : (d : ℤ) (m : ℕ) → IsAccepted d m
       → tideOf d m (doodson (pos 0) (pos 0) (pos 0) (pos 0) (pos 0) (pos 0)) ≡ tideCase.Given (record { frequency = zero64; phase = zero64 })
+  -- (g) a record written at an accepted instant, with any three numbers of 32 bits, into thirty bytes or more reads back as it was
+  pub record-reads-back : (d : ℤ) (m : ℕ) (ut1 lod rate : ℤ) (old : List ℕ) → IsAccepted d m → recordLength ≤ length old → SFits w32 ut1 → SFits w32 lod → SFits w32 rate
+      → readOf (written d m ut1 lod rate old) ≡ IsRecord (fields d m ut1 lod rate)
+  -- thirty bytes that read as a record, written again, are the same thirty bytes, and what stood behind them stays
+  pub record-written-again : (s : List ℕ) (r : Record) (old : List ℕ) → Bytes s → readOf s ≡ IsRecord r → recordLength ≤ length old
+      → (writeRefusal (r .day) (r .micros) (length old) ≡ 0) × (written (r .day) (r .micros) (r .ut1) (r .lod) (r .rate) old ≡ take recordLength s ++ drop recordLength old)
+  -- only the first thirty bytes are read, and writing changes no byte behind them
+  pub record-reads-front : (s : List ℕ) → readOf (take recordLength s) ≡ readOf s
+  pub record-keeps-behind : (d : ℤ) (m : ℕ) (ut1 lod rate : ℤ) (old : List ℕ)
+      → (length (written d m ut1 lod rate old) ≡ length old) × (drop recordLength (written d m ut1 lod rate old) ≡ drop recordLength old)
+  -- a record of which one byte was changed does not read
+  pub record-changed : (s : List ℕ) (r : Record) (i b : ℕ) → Bytes s → readOf s ≡ IsRecord r → i < recordLength → b < 256 → (getD s i 0 ≡ b → ⊥)
+      → (q : Record) → readOf (set s i b) ≡ IsRecord q → ⊥
