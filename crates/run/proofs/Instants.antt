@@ -1,0 +1,66 @@
+-- The instants of a run. Assumes nothing.
+use Prim.Native.Nat.{ℕ, _+_, _*_, _/_, _%_, _^_, _≤_, _<_}
+use mathlib.Core.Path.{_≡_, refl, ap, _∙_}
+use mathlib.Core.Bool.{Bool, true, false, _||_, true≢false}
+use native.Mathlib.Nat as N
+use native.Mathlib.Omega.{arith}
+use lib.Dec.{T}
+use lib.IntN.{ℤ, pos, negℤ, _+ℤ_, _-ℤ_, natAbs}
+use lib.Signed.{ltZ, ltZ-yes, ltZ-no, clashℤ}
+use mir.Syntax.{w64}
+use mir.Val.{SFits}
+use Rattle.algebra.proofs.Order.{_≼_, ≼-refl, ≼-trans, ≼-add, le-plus, pos-le, abs-add}
+use Rattle.algebra.proofs.Fits.{small-fits}
+use Rattle.calendar.specs.Limits.{firstDay, lastDay, dayMicros}
+use Rattle.calendar.specs.Instants.{outside, indexAt, IsAccepted}
+use Rattle.calendar.proofs.Index.{AcceptedAt, accepted-at, accepted}
+use Rattle.run.specs.Run.{mostRecords, laterDay, laterMicros}
+use Rattle.run.specs.Inner.{InRun}
+
+-- ---- the order of day numbers, as the tests have it
+
+not-less : (a b : ℤ) → b ≼ a → ltZ a b ≡ false
+not-less a b h = by (ltZ a b) (λ t. clashℤ (ltZ-yes t) h)
+  where
+    by : (t : Bool) → (T t → ⊥) → t ≡ false
+    by true n = absurd (n tt)
+    by false n = refl
+
+at-least : (a b : ℤ) → ltZ a b ≡ false → b ≼ a
+at-least a b e = ltZ-no (rw e tt)
+
+-- a day number in range, and a later one: it is outside exactly when it is past the last day
+pub outside-later : (d : ℤ) (q : ℕ) → outside d ≡ false → outside (d +ℤ pos q) ≡ ltZ lastDay (d +ℤ pos q)
+unfolding outside
+outside-later d q o = rw (not-less (d +ℤ pos q) firstDay (≼-trans (at-least d firstDay (first (ltZ d firstDay) _ o)) (le-plus d q)))
+  where
+    first : (a b : Bool) → a || b ≡ false → a ≡ false
+    first false b e = refl
+    first true b e = absurd (true≢false e)
+
+-- what is before a day that is not past the last one is not past it either
+pub past-earlier : (d : ℤ) (p q : ℕ) → p ≤ q → ltZ lastDay (d +ℤ pos q) ≡ false → ltZ lastDay (d +ℤ pos p) ≡ false
+past-earlier d p q h e = not-less lastDay (d +ℤ pos p) (≼-trans (≼-add (≼-refl d) (pos-le h)) (at-least lastDay (d +ℤ pos q) e))
+
+-- ---- later instants
+
+size : (d : ℤ) (i : ℕ) → d ≡ pos i -ℤ pos 94553 → natAbs d ≤ i + 94553
+size d i e = rw e (abs-add (pos i) (negℤ (pos 94553)))
+
+module _ (d : ℤ) (m t : ℕ) (a : IsAccepted d m) where
+  inside : AcceptedAt d m (indexAt d)
+  inside = accepted-at d m (indexAt d) a
+
+  -- a later instant is accepted unless it is past the last day
+  pub later-accepted : ltZ lastDay (laterDay d m t) ≡ false → IsAccepted (laterDay d m t) (laterMicros m t)
+  later-accepted e = accepted _ _ (outside-later d _ (inside .inside) ∙ e) (omega arith)
+
+  -- the sums of the code fit
+  pub sum-fits : t ≤ mostRecords * dayMicros → m + t < 2 ^ 62
+  sum-fits h = omega (arith, inside .less)
+
+  pub day-fits : t ≤ mostRecords * dayMicros → SFits w64 (laterDay d m t)
+  day-fits h =
+      let s : m + t < 2 ^ 62 = sum-fits h in
+      let n : natAbs d ≤ indexAt d + 94553 = size d (indexAt d) (inside .is) in
+      small-fits (laterDay d m t) (omega (arith, abs-add d (pos ((m + t) / dayMicros)), inside .high))

@@ -1,0 +1,114 @@
+// A run of records at equal steps from a start, each with the corrections of its own instant.
+use calendar::Acceptance;
+use calendar::Instant;
+use zonal::ZonalAnswer;
+ghost use mathlib.Core.Path.{_≡_};
+ghost use mathlib.Core.List.{_++_};
+ghost use Prim.Native.Nat.{_*_};
+ghost use lib.ListN.{length, drop};
+ghost use Rattle.calendar.specs.Instants.{acceptanceRefusal};
+ghost use Rattle.record.specs.Format.{recordLength};
+ghost use Rattle.run.specs.Run.{laterDay, laterMicros, runRefusal, runBytes, runWritten};
+ghost use Rattle.run.specs.Inner.{laterInstant, InRun, writtenAt};
+
+const MOST_RECORDS: u64 = 96;
+
+// The microseconds of a day.
+const DAY_MICROS: u64 = 86400000000;
+
+// The bytes of a record.
+const LENGTH: usize = 30;
+
+// The instant t microseconds after an instant.
+fn later(day: i64, micros: u64, t: u64) -> Instant
+    requires { ⌜ InRun day micros t ⌝ }
+    ensures { λ r. ⌜ r ≡ laterInstant day micros t ⌝ }
+{
+    let sum = micros + t;
+    Instant {
+        day: day + ((sum / DAY_MICROS) as i64),
+        micros: sum % DAY_MICROS,
+    }
+}
+
+// The refusal of an instant, or 0.
+fn instant_refusal(a: Acceptance) -> u32
+    ensures { λ r. ⌜ r ≡ acceptanceRefusal a ⌝ }
+{
+    match a {
+        Acceptance::NotAccepted(n) => n,
+        Acceptance::Accepted(_) => 0,
+    }
+}
+
+// The refusal of a run into a buffer of so many bytes, or 0.
+fn refusal(day: i64, micros: u64, count: u64, step: u64, size: usize) -> u32
+    ensures { λ r. ⌜ r ≡ runRefusal day micros count step size ⌝ }
+{
+    if count < 1 {
+        return 17;
+    }
+    if MOST_RECORDS < count {
+        return 17;
+    }
+    if step < 1 {
+        return 18;
+    }
+    if DAY_MICROS < step {
+        return 18;
+    }
+    let start = instant_refusal(calendar::accept(day, micros));
+    if start != 0 {
+        return start;
+    }
+    let last = later(day, micros, (count - 1) * step);
+    let end = instant_refusal(calendar::accept(last.day, last.micros));
+    if end != 0 {
+        return end;
+    }
+    if size < LENGTH * (count as usize) {
+        return 12;
+    }
+    0
+}
+
+// Writes the record of the instant t microseconds after an instant, with its corrections, at the front of the buffer.
+fn write_later(day: i64, micros: u64, t: u64, buffer: &mut [u8])
+    requires { ⌜ InRun day micros t ⌝ }
+    ensures { λ _. ⌜ now (buffer .exit) ≡ writtenAt (laterDay day micros t) (laterMicros micros t) (now (buffer .entry)) ⌝ }
+{
+    let i = later(day, micros, t);
+    match zonal::zonal_of(i.day, i.micros) {
+        ZonalAnswer::Refused(_) => {}
+        ZonalAnswer::Given(c) => {
+            record::write(i.day, i.micros, c.ut1, c.lod, c.rate, buffer);
+        }
+    }
+}
+
+// Writes the records of a run that is not refused.
+fn fill(day: i64, micros: u64, count: u64, step: u64, buffer: &mut [u8])
+    requires { ⌜ runRefusal day micros count step (length (now buffer)) ≡ 0 ⌝ }
+    ensures { λ _. ⌜ now (buffer .exit) ≡ runBytes day micros step count ++ drop (recordLength * count) (now (buffer .entry)) ⌝ }
+{
+    let mut k: u64 = 0;
+    let mut at: usize = 0;
+    while k < count {
+        write_later(day, micros, k * step, &mut buffer[at..]);
+        k += 1;
+        at += LENGTH;
+    }
+}
+
+// Writes a run at the front of the buffer and returns 0, or a refusal number with the buffer as it was.
+pub fn write(day: i64, micros: u64, count: u64, step: u64, buffer: &mut [u8]) -> u32
+    ensures { λ r. ⌜ r ≡ runRefusal day micros count step (length (now (buffer .entry))) ⌝ }
+    ensures { λ _. ⌜ now (buffer .exit) ≡ runWritten day micros count step (now (buffer .entry)) ⌝ }
+{
+    let n = refusal(day, micros, count, step, buffer.len());
+    if n != 0 {
+        return n;
+    }
+    fill(day, micros, count, step, buffer);
+    n
+}
