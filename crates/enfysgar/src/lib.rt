@@ -2,5 +2,6 @@
 mod calendar_calls;
 mod clock_calls;
 mod record_calls;
+mod run_calls;
 mod tide_calls;
 mod zonal_calls;

@@ -1,3 +1,4 @@
 pub mod Instants
 pub mod Refusals
 pub mod Records
+pub mod ReadBack

@@ -1,30 +1,34 @@
 -- The records of a run. Assumes nothing.
 use Prim.Native.Nat.{ℕ, zero, suc, _+_, _-_, _*_, _≤_, _<_}
 use mathlib.Core.Path.{_≡_, refl, ap, sym, _∙_}
+use mathlib.Core.Bool.{Bool, true, false}
 use mathlib.Core.List.{List, [], _++_, append-assoc, append-nil}
 use native.Mathlib.Numerals.{add-one}
 use native.Mathlib.Omega.{arith}
+use lib.Dec.{eqb}
 use lib.IntN.{ℤ}
 use lib.ListN.{length, take, drop, length-append, length-drop}
 use lib.Seq.{take-at, drop-at, drop-drop, take-all, drop-length}
-use borrow.Author.Tests.{le-ltb, eq-eqb, ne-eqb}
+use borrow.Author.Tests.{eq-eqb, ne-eqb, eqb-true, eqb-false}
 use Rattle.calendar.specs.declared.Acceptance.{Acceptance}
 use Rattle.calendar.specs.declared.Acceptance.the-variants.{Accepted, NotAccepted}
 use Rattle.calendar.specs.Instants.{acceptance, IsAccepted}
-use Rattle.clock.specs.Words.{splitBy, splitOf}
-use Rattle.clock.proofs.Words.{split-accepted}
+use Rattle.calendar.proofs.Cases.{no-case}
+use Rattle.clock.specs.Words.{splitOf}
 use Rattle.record.specs.Format.{recordLength, recordBytes}
 use Rattle.record.specs.Records.{written}
+use Rattle.record.proofs.Written.{written-is, record-length}
 use Rattle.zonal.specs.declared.Corrections.{Corrections}
 use Rattle.zonal.specs.declared.ZonalAnswer.the-variants.{Given, Refused}
 use Rattle.zonal.specs.Ours.{zonalBy, zonalOf}
 use Rattle.run.specs.Run.{laterDay, laterMicros, runRefusal, recordAt, runBytes, runWritten}
 use Rattle.run.specs.Inner.{writtenAt}
+use Rattle.run.proofs.Refusals.{not-refused}
 
 -- the record of an accepted instant, written at the front of a buffer with room for it
 pub written-accepted : (d : ℤ) (m : ℕ) (old : List ℕ) → IsAccepted d m → recordLength ≤ length old → writtenAt d m old ≡ recordAt d m ++ drop recordLength old
-unfolding writtenAt written recordAt
-written-accepted d m old a h = simp (split-accepted d m a, le-ltb (length old) recordLength h)
+unfolding writtenAt recordAt
+written-accepted d m old a h = written-is d m _ _ _ old a h
 
 -- an instant without corrections has no record
 pub written-refused : (d : ℤ) (m n : ℕ) (old : List ℕ) → zonalOf d m ≡ Refused n → old ≡ writtenAt d m old
@@ -32,7 +36,7 @@ unfolding writtenAt written splitOf zonalOf
 written-refused d m n old e = by (acceptance d m) refl e
   where
     by : (a : Acceptance) → acceptance d m ≡ a → zonalBy a m ≡ Refused n → old ≡ writtenAt d m old
-    by (Accepted i) p e = let z : _≡_ {A = ℕ} 0 1 = cc in let v : ⊥ = omega arith in absurd v
+    by (Accepted i) p e = no-case (cc)
     by (NotAccepted r) p e = rw p refl
 
 -- and one with corrections has that of its numbers
@@ -42,9 +46,9 @@ written-given d m c old e = rw e refl
 
 -- ---- the records one behind the other
 
-pub record-length : (d : ℤ) (m : ℕ) → length (recordAt d m) ≡ recordLength
-unfolding recordAt recordBytes
-record-length d m = refl
+pub thirty : (d : ℤ) (m : ℕ) → length (recordAt d m) ≡ recordLength
+unfolding recordAt
+thirty d m = record-length _ _ _ _
 
 -- PROMISE. The first k records of a run are 30 * k bytes.
 pub run-length : (d : ℤ) (m step k : ℕ) → length (runBytes d m step k) ≡ recordLength * k
@@ -52,7 +56,7 @@ unfolding runBytes
 run-length d m step zero = refl
 run-length d m step (suc k) =
     let h : length (runBytes d m step k) ≡ recordLength * k = run-length d m step k in
-    let r : length (recordAt (laterDay d m (k * step)) (laterMicros m (k * step))) ≡ recordLength = record-length (laterDay d m (k * step)) (laterMicros m (k * step)) in
+    let r : length (recordAt (laterDay d m (k * step)) (laterMicros m (k * step))) ≡ recordLength = thirty (laterDay d m (k * step)) (laterMicros m (k * step)) in
     simp length-append (omega arith)
 
 -- ---- the buffer afterwards
@@ -66,6 +70,27 @@ refused-unchanged d m count step old h = simp (ne-eqb _ _ h)
 pub run-written : (d : ℤ) (m count step : ℕ) (old : List ℕ) → runRefusal d m count step (length old) ≡ 0 → runWritten d m count step old ≡ runBytes d m step count ++ drop (recordLength * count) old
 unfolding runWritten
 run-written d m count step old e = simp (eq-eqb _ _ e)
+
+-- what a run leaves of the buffer
+pub record Keeps (d : ℤ) (m count step : ℕ) (old : List ℕ) : Type 0 where
+  pub size : length (runWritten d m count step old) ≡ length old
+  pub behind : drop (recordLength * count) (runWritten d m count step old) ≡ drop (recordLength * count) old
+
+-- PROMISE. A run leaves the buffer as long as it is, and every byte behind its records as it was.
+pub run-keeps : (d : ℤ) (m count step : ℕ) (old : List ℕ) → Keeps d m count step old
+run-keeps d m count step old = by (eqb (runRefusal d m count step (length old)) 0) refl
+  where
+    by : (t : Bool) → eqb (runRefusal d m count step (length old)) 0 ≡ t → Keeps d m count step old
+    by false p = let e = refused-unchanged d m count step old (eqb-false _ _ p) in record { size = ap length e; behind = ap (drop (recordLength * count)) e }
+    by true p =
+        let e = eqb-true _ _ p in
+        let r = not-refused d m count step (length old) e in
+        let l : length (runBytes d m step count) ≡ recordLength * count = run-length d m step count in
+        let w = run-written d m count step old e in
+        record {
+          size = ap length w ∙ simp (length-append, length-drop) (omega (arith, r .room));
+          behind = ap (drop (recordLength * count)) w ∙ drop-at (runBytes d m step count) (drop (recordLength * count) old) (recordLength * count) l;
+        }
 
 -- What stands in the buffer when k of count records have been written: these, and from the place `at` on the bytes that were there.
 pub record Filled (d : ℤ) (m count step : ℕ) (old s : List ℕ) (k at : ℕ) : Type 0 where

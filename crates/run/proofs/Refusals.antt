@@ -5,41 +5,39 @@ use mathlib.Core.Bool.{Bool, true, false, cond, _||_, true≢false}
 use mathlib.Core.List.{[], _∷_}
 use native.Mathlib.Nat.{mul-le-mul, mul-le-mul-right}
 use native.Mathlib.Omega.{arith}
-use lib.Dec.{ltb, leb}
+use lib.Dec.{ltb, leb, lit≤}
 use lib.IntN.{ℤ}
 use lib.Signed.{ltZ}
-use borrow.Author.Tests.{ltb-false, le-ltb, lt-leb}
+use borrow.Author.Tests.{ltb-false, leb-false, le-ltb, lt-leb}
 use Rattle.calendar.specs.declared.Acceptance.{Acceptance}
 use Rattle.calendar.specs.declared.Acceptance.the-variants.{Accepted, NotAccepted}
 use Rattle.calendar.specs.Limits.{lastDay, dayMicros}
 use Rattle.calendar.specs.Refusals.{case, firstRefusal}
 use Rattle.calendar.specs.Instants.{outside, indexAt, acceptance, acceptanceRefusal, IsAccepted}
-use Rattle.calendar.proofs.Index.{AcceptedAt, accepted-at}
+use Rattle.calendar.proofs.Index.{accepted-at, accepted}
+use Rattle.calendar.proofs.Refusals.{acceptance-refusal}
 use Rattle.record.specs.Format.{recordLength}
 use Rattle.run.specs.Run.{mostRecords, laterDay, laterMicros, badCount, badStep, endsPast, startBy, runRefusal}
 use Rattle.run.proofs.Instants.{outside-later, past-earlier, later-accepted}
+
+-- with no refusal, no case applies
+passed : (n : ℕ) (b : Bool) {x : ℕ} → 0 < n → cond b n x ≡ 0 → (b ≡ false) × (x ≡ 0)
+passed n true h e = let v : ⊥ = omega arith in absurd v
+passed n false h e = (refl, e)
 
 -- ---- the refusal of an instant
 
 -- an instant with no refusal is accepted
 pub none-accepted : (d : ℤ) (m : ℕ) → acceptanceRefusal (acceptance d m) ≡ 0 → IsAccepted d m
-unfolding acceptance
-none-accepted d m e = by (outside d) (leb dayMicros m) e
-  where
-    by : (a b : Bool) → acceptanceRefusal (cond a (NotAccepted 8) (cond b (NotAccepted 9) (Accepted (indexAt d)))) ≡ 0
-        → cond a (NotAccepted 8) (cond b (NotAccepted 9) (Accepted (indexAt d))) ≡ Accepted (indexAt d)
-    by true b e = let v : ⊥ = omega arith in absurd v
-    by false true e = let v : ⊥ = omega arith in absurd v
-    by false false e = refl
+none-accepted d m e =
+    let p = passed 8 (outside d) (lit≤ tt) (sym (acceptance-refusal d m) ∙ e) in
+    accepted d m (p .0) (leb-false dayMicros m (passed 9 (leb dayMicros m) (lit≤ tt) (p .1) .0))
 
 -- an instant after an accepted one is refused by 8 when it is past the last day, and by nothing else
 pub later-refusal : (d : ℤ) (m t : ℕ) → IsAccepted d m → acceptanceRefusal (acceptance (laterDay d m t) (laterMicros m t)) ≡ cond (ltZ lastDay (laterDay d m t)) 8 0
-unfolding acceptance
-later-refusal d m t a = rw (outside-later d _ (accepted-at d m (indexAt d) a .inside), lt-leb dayMicros (laterMicros m t) (omega arith)) (by (ltZ lastDay (laterDay d m t)))
-  where
-    by : (p : Bool) → acceptanceRefusal (cond p (NotAccepted 8) (Accepted (indexAt (laterDay d m t)))) ≡ cond p 8 0
-    by true = refl
-    by false = refl
+later-refusal d m t a =
+    acceptance-refusal (laterDay d m t) (laterMicros m t)
+    ∙ rw (outside-later d _ (accepted-at d m (indexAt d) a .inside), lt-leb dayMicros (laterMicros m t) (omega arith)) refl
 
 -- ---- the refusal of a run
 
@@ -108,26 +106,21 @@ between x low high e = by (ltb x low) (ltb high x) refl refl e
     by true b p q e = absurd (true≢false e)
 
 pub not-refused : (d : ℤ) (m count step n : ℕ) → runRefusal d m count step n ≡ 0 → NotRefused d m count step n
-unfolding runRefusal acceptance endsPast
-not-refused d m count step n e = by (badCount count) (badStep step) (outside d) (leb dayMicros m) (ltZ lastDay (laterDay d m ((count - 1) * step))) (ltb n (recordLength * count)) refl refl refl refl refl refl (sym (run-refusal d m count step n) ∙ e)
-  where
-    by : (a b c f g h : Bool)
-        → badCount count ≡ a → badStep step ≡ b → outside d ≡ c → leb dayMicros m ≡ f → ltZ lastDay (laterDay d m ((count - 1) * step)) ≡ g → ltb n (recordLength * count) ≡ h
-        → firstRefusal (case 17 a ∷ case 18 b ∷ case 8 c ∷ case 9 f ∷ case 8 g ∷ case 12 h ∷ []) ≡ 0
-        → NotRefused d m count step n
-    by true b c f g h p q r s t u e = let v : ⊥ = omega arith in absurd v
-    by false true c f g h p q r s t u e = let v : ⊥ = omega arith in absurd v
-    by false false true f g h p q r s t u e = let v : ⊥ = omega arith in absurd v
-    by false false false true g h p q r s t u e = let v : ⊥ = omega arith in absurd v
-    by false false false false true h p q r s t u e = let v : ⊥ = omega arith in absurd v
-    by false false false false false true p q r s t u e = let v : ⊥ = omega arith in absurd v
-    by false false false false false false p q r s t u e =
-        record {
-          counted = record { some = between count 1 mostRecords p .0; few = between count 1 mostRecords p .1; least = between step 1 dayMicros q .0; most = between step 1 dayMicros q .1 };
-          accepted = simp (r, s);
-          ends = t;
-          room = ltb-false n (recordLength * count) u;
-        }
+not-refused d m count step n e =
+    let a = passed 17 (badCount count) (lit≤ tt) (sym (run-refusal d m count step n) ∙ e) in
+    let b = passed 18 (badStep step) (lit≤ tt) (a .1) in
+    let c = passed 8 (outside d) (lit≤ tt) (b .1) in
+    let f = passed 9 (leb dayMicros m) (lit≤ tt) (c .1) in
+    let g = passed 8 (ltZ lastDay (laterDay d m ((count - 1) * step))) (lit≤ tt) (f .1) in
+    let h = passed 12 (ltb n (recordLength * count)) (lit≤ tt) (g .1) in
+    let p = between count 1 mostRecords (a .0) in
+    let q = between step 1 dayMicros (b .0) in
+    record {
+      counted = record { some = p .0; few = p .1; least = q .0; most = q .1 };
+      accepted = accepted d m (c .0) (leb-false dayMicros m (f .0));
+      ends = g .0;
+      room = ltb-false n (recordLength * count) (h .0);
+    }
 
 -- the steps of a run together
 pub steps-few : (k step : ℕ) → k ≤ mostRecords → step ≤ dayMicros → k * step ≤ mostRecords * dayMicros

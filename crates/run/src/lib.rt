@@ -78,10 +78,12 @@ fn write_later(day: i64, micros: u64, t: u64, buffer: &mut [u8])
     ensures { λ _. ⌜ now (buffer .exit) ≡ writtenAt (laterDay day micros t) (laterMicros micros t) (now (buffer .entry)) ⌝ }
 {
     let i = later(day, micros, t);
-    match zonal::zonal_of(i.day, i.micros) {
+    let d = i.day;
+    let m = i.micros;
+    match zonal::zonal_of(d, m) {
         ZonalAnswer::Refused(_) => {}
         ZonalAnswer::Given(c) => {
-            record::write(i.day, i.micros, c.ut1, c.lod, c.rate, buffer);
+            record::write(d, m, c.ut1, c.lod, c.rate, buffer);
         }
     }
 }

@@ -65,7 +65,7 @@ same-length c = search needs
 returns-2 : tie.Need-returns-2
 returns-2 c =
     let w = c .before .before in
-    let k = w .before .before .before .before .before .before .before in
+    let k = w .before .before .before .before .before .before in
     let a = k .before .before .before .before in
     let g = k .c .given .0 .0 in
     let u : toZ w32 (ofZ w32 (g .ut1)) ≡ g .ut1 = toZ-ofZ (search needs) in

@@ -1,0 +1,111 @@
+-- Each record of a run stands at its place and reads back. Assumes nothing.
+use Prim.Native.Nat.{ℕ, zero, suc, _+_, _-_, _*_, _/_, _%_, _<_, _≤_}
+use mathlib.Core.Path.{_≡_, refl, ap, sym, _∙_}
+use mathlib.Core.List.{List, [], _++_, append-assoc, append-nil}
+use native.Mathlib.Decide.{decLt}
+use native.Mathlib.Nat.{not-suc-le-zero}
+use native.Mathlib.Omega.{arith}
+use lib.IntN.{ℤ, pos, _+ℤ_, _-ℤ_, _*ℤ_}
+use lib.ListN.{length, take, drop}
+use lib.Seq.{take-at, drop-at}
+use borrow.Author.Tests.{le-ltb}
+use Rattle.algebra.specs.Integers.{+_}
+use Rattle.algebra.proofs.Ring.{end, _▸_, ring, quote}
+use Rattle.arguments.specs.Exact.{sinceJ2000}
+use Rattle.calendar.specs.Limits.{dayMicros}
+use Rattle.calendar.specs.Instants.{outside, indexAt, acceptance, IsAccepted}
+use Rattle.record.specs.Format.{recordLength}
+use Rattle.record.specs.Records.{readOf}
+use Rattle.record.proofs.Round.{read-back}
+use Rattle.record.proofs.Kept.{read-front}
+use Rattle.zonal.specs.declared.Corrections.{Corrections}
+use Rattle.zonal.specs.Within.{promised, Answered}
+use Rattle.zonal.proofs.Promises.{accepted-answered, given-accepted}
+use Rattle.zonal.proofs.Sizes.{Fit, corrections-fit}
+use Rattle.zonal.proofs.Worked.{no-constant}
+use Rattle.run.specs.Run.{laterDay, laterMicros, endsPast, runRefusal, recordAt, runBytes, runWritten}
+use Rattle.run.specs.ReadBack.{ReadsAt}
+use Rattle.run.proofs.Refusals.{run-accepted}
+use Rattle.run.proofs.Records.{thirty, run-length, run-written}
+
+-- ---- the instants
+
+-- PROMISE. The instant t microseconds after another is t microseconds later, and its microseconds are those of a day.
+pub later-by : (d : ℤ) (m t : ℕ) → (sinceJ2000 (laterDay d m t) (laterMicros m t) ≡ sinceJ2000 d m +ℤ + t) × (laterMicros m t < dayMicros)
+later-by d m t = (moved d (+ ((m + t) / dayMicros)) (+ 51544) (+ dayMicros) (+ laterMicros m t) (+ 43_200_000_000) (+ m) (+ t) sum, omega arith)
+  where
+    whole : (x : ℕ) → x / dayMicros * dayMicros + x % dayMicros ≡ x
+    whole x = omega arith
+
+    sum : + ((m + t) / dayMicros) *ℤ + dayMicros +ℤ + laterMicros m t ≡ + m +ℤ + t
+    sum = ap pos (whole (m + t))
+
+    left : (d q c n r h : ℤ) → (d +ℤ q -ℤ c) *ℤ n +ℤ r -ℤ h ≡ (d -ℤ c) *ℤ n -ℤ h +ℤ (q *ℤ n +ℤ r)
+    left d q c n r h = ring (d ▸ q ▸ c ▸ n ▸ r ▸ h ▸ end) (search quote depth 13) tt
+
+    right : (d c n h m t : ℤ) → (d -ℤ c) *ℤ n -ℤ h +ℤ (m +ℤ t) ≡ (d -ℤ c) *ℤ n +ℤ m -ℤ h +ℤ t
+    right d c n h m t = ring (d ▸ c ▸ n ▸ h ▸ m ▸ t ▸ end) (search quote depth 13) tt
+
+    moved : (d q c n r h m t : ℤ) → q *ℤ n +ℤ r ≡ m +ℤ t → (d +ℤ q -ℤ c) *ℤ n +ℤ r -ℤ h ≡ (d -ℤ c) *ℤ n +ℤ m -ℤ h +ℤ t
+    moved d q c n r h m t e = left d q c n r h ∙ (ap (λ (z : ℤ). (d -ℤ c) *ℤ n -ℤ h +ℤ z) e ∙ right d c n h m t)
+
+-- ---- the place of a record
+
+-- the records behind record k
+record Behind (d : ℤ) (m step n k : ℕ) : Type 0 where
+  rest : List ℕ
+  whole : runBytes d m step n ≡ runBytes d m step k ++ (recordAt (laterDay d m (k * step)) (laterMicros m (k * step)) ++ rest)
+
+behind : (d : ℤ) (m step n k : ℕ) → k < n → Behind d m step n k
+unfolding runBytes
+behind d m step zero k h = absurd (not-suc-le-zero h)
+behind d m step (suc n) k h = by (decLt k n) (λ l. behind d m step n k l)
+  where
+    by : Dec (k < n) → (k < n → Behind d m step n k) → Behind d m step (suc n) k
+    by (yes l) f =
+        let r : List ℕ = recordAt (laterDay d m (n * step)) (laterMicros m (n * step)) in
+        record { rest = f l .rest ++ r; whole = ap (λ (x : List ℕ). x ++ r) (f l .whole) ∙ simp append-assoc }
+    by (no l) f =
+        let e : n ≡ k = omega (arith, l) in
+        record { rest = []; whole = rw (e, append-nil) refl }
+
+-- PROMISE. Record k of a run that is not refused fills the bytes 30 * k to 30 * k + 29 of the buffer.
+pub record-place : (d : ℤ) (m count step : ℕ) (old : List ℕ) → runRefusal d m count step (length old) ≡ 0 → (k : ℕ) → k < count
+    → take recordLength (drop (recordLength * k) (runWritten d m count step old)) ≡ recordAt (laterDay d m (k * step)) (laterMicros m (k * step))
+record-place d m count step old e k h =
+    let b : Behind d m step count k = behind d m step count k h in
+    let r : List ℕ = recordAt (laterDay d m (k * step)) (laterMicros m (k * step)) in
+    rw (run-written d m count step old e, b .whole, append-assoc, drop-at (runBytes d m step k) _ (recordLength * k) (run-length d m step k), append-assoc)
+    (take-at r _ recordLength (thirty _ _))
+
+-- ---- reading back
+
+-- the record of an accepted instant reads as the numbers of its corrections
+record-reads : (d : ℤ) (m : ℕ) → IsAccepted d m → ReadsAt d m (recordAt d m)
+unfolding recordAt
+record-reads d m a = by (accepted-answered d m a)
+  where
+    by : Answered promised d m → ReadsAt d m (recordAt d m)
+    by w =
+        let f : Fit (w .numbers) = rw (given-accepted d m (w .numbers) (w .given) .1) (corrections-fit (indexAt d) m) in
+        let b = read-back d m (w .numbers .ut1) (w .numbers .lod) (w .numbers .rate) [] a (f .ut1) (f .lod) (f .rate) in
+        record { answered = w; reads = rw (w .given) (simp append-nil at b) }
+
+-- PROMISE. Record k of a run that is not refused reads back as the instant that is k steps after the start, and as the numbers of service (e)
+-- there, within 20, 200 and 20 of the exact sums.
+pub run-reads : (d : ℤ) (m count step : ℕ) (old : List ℕ) → runRefusal d m count step (length old) ≡ 0 → (k : ℕ) → k < count
+    → ReadsAt (laterDay d m (k * step)) (laterMicros m (k * step)) (take recordLength (drop (recordLength * k) (runWritten d m count step old)))
+run-reads d m count step old e k h = rw (record-place d m count step old e k h) (record-reads _ _ (run-accepted d m count step (length old) e k h))
+
+-- PROMISE. Records of day 54465 and of day 54466, at microsecond 0, differ in each of the three numbers: a run that puts the corrections of its
+-- first record into the others is none of ours.
+pub not-copied : {s s′ : List ℕ} (x : ReadsAt (+ 54465) 0 s) (y : ReadsAt (+ 54466) 0 s′) →
+    let a : Corrections = x .answered .numbers in
+    let b : Corrections = y .answered .numbers in
+    (a .ut1 ≡ b .ut1 → ⊥) × (a .lod ≡ b .lod → ⊥) × (a .rate ≡ b .rate → ⊥)
+not-copied x y = no-constant (x .answered .numbers) (y .answered .numbers) (x .answered .within) (y .answered .within)
+
+-- PROMISE. There are runs that are not refused: ninety-six records from day 54465 on, a quarter of an hour apart or a day apart.
+pub some-not-refused : (n : ℕ) → recordLength * 96 ≤ n → (runRefusal (+ 54465) 0 96 900_000_000 n ≡ 0) × (runRefusal (+ 54465) 0 96 86_400_000_000 n ≡ 0)
+unfolding runRefusal acceptance outside endsPast
+some-not-refused n h = simp (le-ltb n (recordLength * 96) h) (refl, refl)
