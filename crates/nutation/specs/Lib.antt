@@ -1,0 +1,5 @@
+-- The offsets of the free core nutation. Read Table, Exact and Ours; Inner serves the code's own contracts.
+pub mod Table
+pub mod Exact
+pub mod Ours
+pub mod Inner
