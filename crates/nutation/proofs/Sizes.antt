@@ -23,7 +23,7 @@ use Rattle.nutation.specs.declared.Place.the-variants.{End, Between}
 use Rattle.nutation.specs.Table.{largest, AcceptedRow}
 use Rattle.nutation.specs.Exact.{span}
 use Rattle.nutation.specs.Ours.{startAngle, angleRate, ourAngle, factor, mixed, amplitude, offset}
-use Rattle.nutation.specs.Inner.{since, dateMoment, Inside, Placed, widest}
+use Rattle.nutation.specs.Inner.{since, dateMoment, Inside, Placed, MixBounds, widest, OffsetBounds}
 use Rattle.nutation.proofs.Time.{after-is, span-is, days-apart}
 
 -- ---- between two rows
@@ -76,18 +76,18 @@ minus-small c d hc hd = le-trans (abs-sum d (negℤ c) refl hd (le-trans (le-of-
 
 -- ---- from one amplitude to another
 
-module _ (c d : ℤ) (l : ℕ) (hc : natAbs c ≤ largest) (hd : natAbs d ≤ largest) (hl : l ≤ 2 ^ 27) where
+module _ {c d : ℤ} {l : ℕ} (h : MixBounds c d l) where
   pub mixed-first : SFits w64 (c *ℤ pos (2 ^ 27))
-  mixed-first = small-fits (c *ℤ pos (2 ^ 27)) (lt-of-le-of-lt (abs-prod c (pos (2 ^ 27)) hc (N.le-refl (2 ^ 27))) (lit≤ tt))
+  mixed-first = small-fits (c *ℤ pos (2 ^ 27)) (lt-of-le-of-lt (abs-prod c (pos (2 ^ 27)) (h .from) (N.le-refl (2 ^ 27))) (lit≤ tt))
 
   pub mixed-apart : SFits w64 (d -ℤ c)
-  mixed-apart = small-fits (d -ℤ c) (lt-of-le-of-lt (minus-small c d hc hd) (lit≤ tt))
+  mixed-apart = small-fits (d -ℤ c) (lt-of-le-of-lt (minus-small c d (h .from) (h .to)) (lit≤ tt))
 
   pub mixed-second : SFits w64 ((d -ℤ c) *ℤ pos l)
-  mixed-second = small-fits ((d -ℤ c) *ℤ pos l) (lt-of-le-of-lt (abs-prod (d -ℤ c) (pos l) (minus-small c d hc hd) hl) (lit≤ tt))
+  mixed-second = small-fits ((d -ℤ c) *ℤ pos l) (lt-of-le-of-lt (abs-prod (d -ℤ c) (pos l) (minus-small c d (h .from) (h .to)) (h .part)) (lit≤ tt))
 
   sum-small : natAbs (c *ℤ pos (2 ^ 27) +ℤ (d -ℤ c) *ℤ pos l) ≤ largest * 2 ^ 27
-  sum-small = between-small (2 ^ 27) l largest c d hl hc hd
+  sum-small = between-small (2 ^ 27) l largest c d (h .part) (h .from) (h .to)
 
   pub mixed-sum : SFits w64 (c *ℤ pos (2 ^ 27) +ℤ (d -ℤ c) *ℤ pos l)
   mixed-sum = small-fits (c *ℤ pos (2 ^ 27) +ℤ (d -ℤ c) *ℤ pos l) (lt-of-le-of-lt sum-small (lit≤ tt))
@@ -97,8 +97,8 @@ module _ (c d : ℤ) (l : ℕ) (hc : natAbs c ≤ largest) (hd : natAbs d ≤ la
   mixed-small = go (c *ℤ pos (2 ^ 27) +ℤ (d -ℤ c) *ℤ pos l) sum-small
     where
       go : (z : ℤ) → natAbs z ≤ largest * 2 ^ 27 → natAbs (shrZ z (2 ^ 17)) ≤ widest
-      go (pos n) h = omega arith
-      go (negsuc n) h = omega arith
+      go (pos n) k = omega arith
+      go (negsuc n) k = omega arith
 
   pub mixed-fits : SFits w64 (mixed c d l)
   mixed-fits = small-fits (mixed c d l) (lt-of-le-of-lt mixed-small (lit≤ tt))
@@ -114,7 +114,7 @@ times-fits c h = small-fits (c *ℤ pos (2 ^ 10)) (lt-of-le-of-lt (times-small c
 pub amplitude-small : (f : Row → ℤ) → ((r : Row) → AcceptedRow r → natAbs (f r) ≤ largest) → (p : Place) (x : ℕ) → Placed p x → natAbs (amplitude f p (since x)) ≤ widest
 unfolding amplitude
 amplitude-small f k (End r) x h = times-small (f r) (k r h)
-amplitude-small f k (Between a b) x h = mixed-small (f a) (f b) (factor a b (since x)) (k a (h .0)) (k b (h .1)) factor-small
+amplitude-small f k (Between a b) x h = mixed-small (record { from = k a (h .0); to = k b (h .1); part = factor-small })
   where
     factor-small : factor a b (since x) ≤ 2 ^ 27
     factor-small = le-trans (le-of-eq (factor-is a b x (h .2))) (factor-le (x - dateMoment a) ((b .day - a .day) * dayMicros) (after-less a b x (h .2)))
@@ -125,18 +125,18 @@ minus-fits z h = small-fits (pos 0 -ℤ z) (lt-of-le-of-lt (le-trans (le-of-eq (
 
 -- ---- the offsets
 
-module _ (c s cos sin : ℤ) (hc : natAbs c ≤ widest) (hs : natAbs s ≤ widest) (hcos : natAbs cos < 2 ^ 32) (hsin : natAbs sin < 2 ^ 32) where
+module _ {c s cos sin : ℤ} (h : OffsetBounds c s cos sin) where
   one : (a u : ℤ) → natAbs a ≤ widest → natAbs u < 2 ^ 32 → natAbs (a *ℤ u) ≤ widest * 2 ^ 32
-  one a u h k = abs-prod a u h (N.le-of-lt k)
+  one a u l k = abs-prod a u l (N.le-of-lt k)
 
   pub offset-first : SFits w64 (c *ℤ cos)
-  offset-first = small-fits (c *ℤ cos) (lt-of-le-of-lt (one c cos hc hcos) (lit≤ tt))
+  offset-first = small-fits (c *ℤ cos) (lt-of-le-of-lt (one c cos (h .c-small) (h .cos-small)) (lit≤ tt))
 
   pub offset-second : SFits w64 (s *ℤ sin)
-  offset-second = small-fits (s *ℤ sin) (lt-of-le-of-lt (one s sin hs hsin) (lit≤ tt))
+  offset-second = small-fits (s *ℤ sin) (lt-of-le-of-lt (one s sin (h .s-small) (h .sin-small)) (lit≤ tt))
 
   difference : natAbs (c *ℤ cos -ℤ s *ℤ sin) ≤ widest * 2 ^ 32 + widest * 2 ^ 32
-  difference = abs-sum (c *ℤ cos) (negℤ (s *ℤ sin)) refl (one c cos hc hcos) (le-trans (le-of-eq (abs-neg (s *ℤ sin))) (one s sin hs hsin))
+  difference = abs-sum (c *ℤ cos) (negℤ (s *ℤ sin)) refl (one c cos (h .c-small) (h .cos-small)) (le-trans (le-of-eq (abs-neg (s *ℤ sin))) (one s sin (h .s-small) (h .sin-small)))
 
   pub offset-difference : SFits w64 (c *ℤ cos -ℤ s *ℤ sin)
   offset-difference = small-fits (c *ℤ cos -ℤ s *ℤ sin) (lt-of-le-of-lt difference (lit≤ tt))
@@ -158,8 +158,8 @@ module _ (c s cos sin : ℤ) (hc : natAbs c ≤ widest) (hs : natAbs s ≤ wides
   offset-fits = small-fits (offset c s cos sin) (go (pos 10 *ℤ (c *ℤ cos -ℤ s *ℤ sin) +ℤ pos (2 ^ 40)) (lt-of-le-of-lt sum (lit≤ tt)))
     where
       go : (z : ℤ) → natAbs z < 2 ^ 63 → natAbs (shrZ z (2 ^ 41)) < 2 ^ 63
-      go (pos n) h = omega arith
-      go (negsuc n) h = omega arith
+      go (pos n) k = omega arith
+      go (negsuc n) k = omega arith
 
 -- ---- the angle
 

@@ -2,7 +2,7 @@
 -- Assumes nothing.
 use mathlib.Core.Path.{_≡_}
 use mathlib.Core.List.{List, [], _∷_}
-use Prim.Native.Nat.{ℕ, _+_, _≤_, _<_}
+use Prim.Native.Nat.{ℕ, _+_, _*_, _^_, _≤_, _<_}
 use lib.IntN.{ℤ, pos, _-ℤ_, _*ℤ_, natAbs}
 use lib.ListN.{length, getD}
 use Rattle.arguments.specs.Exact.{century}
@@ -11,7 +11,7 @@ use Rattle.nutation.specs.declared.Row.{Row}
 use Rattle.nutation.specs.declared.Place.{Place}
 use Rattle.nutation.specs.declared.Place.the-variants.{End, Between}
 use Rattle.nutation.specs.declared.Amplitudes.{Amplitudes}
-use Rattle.nutation.specs.Table.{row, rowAt, AcceptedRow, AcceptedTable}
+use Rattle.nutation.specs.Table.{row, rowAt, largest, AcceptedRow, AcceptedTable}
 use Rattle.nutation.specs.Ours.{ourXC, ourXS}
 
 -- ---- time: the code counts x, the microseconds since five centuries before J2000.0
@@ -62,11 +62,24 @@ abbrev pub Placed : Place → ℕ → Type 0
 Placed (End r) x = AcceptedRow r
 Placed (Between a b) x = AcceptedRow a × AcceptedRow b × Inside a b x
 
--- ---- both amplitudes
-
--- the largest one
-abbrev pub widest : ℕ
-widest = 102_400_000
+-- ---- the steps to the offsets
 
 unfoldable pub amplitudes : Place → ℤ → Amplitudes
 amplitudes p n = record { xc = ourXC p n; xs = ourXS p n }
+
+-- two rows' amplitudes, and a factor
+pub record MixBounds (c d : ℤ) (l : ℕ) : Type 0 where
+  pub from : natAbs c ≤ largest
+  pub to : natAbs d ≤ largest
+  pub part : l ≤ 2 ^ 27
+
+-- the largest of our amplitudes
+abbrev pub widest : ℕ
+widest = largest * 2 ^ 10
+
+-- two amplitudes, a cosine and a sine
+pub record OffsetBounds (c s cos sin : ℤ) : Type 0 where
+  pub c-small : natAbs c ≤ widest
+  pub s-small : natAbs s ≤ widest
+  pub cos-small : natAbs cos < 2 ^ 32
+  pub sin-small : natAbs sin < 2 ^ 32

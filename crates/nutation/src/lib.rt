@@ -3,7 +3,7 @@
 use calendar::Acceptance;
 ghost use mathlib.Core.Path.{_≡_};
 ghost use Prim.Native.Nat.{ℕ, _+_, _-_, _*_, _/_, _^_, _≤_, _<_};
-ghost use lib.IntN.{pos, natAbs};
+ghost use lib.IntN.{ℤ};
 ghost use lib.ListN.{length};
 ghost use Rattle.calendar.specs.Limits.{dayMicros};
 ghost use Rattle.algebra.specs.Integers.{dist};
@@ -11,7 +11,7 @@ ghost use Rattle.arguments.specs.Inner.{latest};
 ghost use Rattle.nutation.specs.Table.{rowAt, lastRowDay, largest, AcceptedRow};
 ghost use Rattle.nutation.specs.Exact.{place, roundUp, uncertaintyAt};
 ghost use Rattle.nutation.specs.Ours.{ourAngle, mixed, offset, offsetsAt, nutationOf};
-ghost use Rattle.nutation.specs.Inner.{since, dateMoment, rowsOf, Lent, Bracket, Placed, widest, amplitudes};
+ghost use Rattle.nutation.specs.Inner.{since, dateMoment, rowsOf, Lent, Bracket, Inside, Placed, amplitudes, MixBounds, OffsetBounds};
 
 // A row of a table: the day number of its date, the amplitudes and the uncertainty in hundredths of a microarcsecond.
 struct Row {
@@ -142,28 +142,40 @@ fn factor_of(days: u64, after: u64) -> u64
 
 // From c to d by l of 2^27, with ten binary places.
 fn mixed_of(c: i64, d: i64, l: u64) -> i64
-    requires { ⌜ (natAbs c ≤ largest) × (natAbs d ≤ largest) × (l ≤ 2 ^ 27) ⌝ }
+    requires { ⌜ MixBounds c d l ⌝ }
     ensures { λ r. ⌜ r ≡ mixed c d l ⌝ }
 {
     (c * 134217728 + (d - c) * (l as i64)) >> 17
 }
 
+fn amplitudes_end(r: Row) -> Amplitudes
+    requires { ⌜ AcceptedRow r ⌝ }
+    ensures { λ q. ⌜ ((n : ℤ) → q ≡ amplitudes (Place.End r) n) ⌝ }
+{
+    Amplitudes {
+        xc: r.xc * 1024,
+        xs: r.xs * 1024,
+    }
+}
+
+fn amplitudes_between(a: Row, b: Row, x: u64) -> Amplitudes
+    requires { ⌜ AcceptedRow a × AcceptedRow b × Inside a b x ⌝ }
+    ensures { λ q. ⌜ q ≡ amplitudes (Place.Between a b) (since x) ⌝ }
+{
+    let l = factor_of(b.day - a.day, x - date_of(a));
+    Amplitudes {
+        xc: mixed_of(a.xc, b.xc, l),
+        xs: mixed_of(a.xs, b.xs, l),
+    }
+}
+
 fn amplitudes_at(p: Place, x: u64) -> Amplitudes
     requires { ⌜ Placed p x ⌝ }
-    ensures { λ r. ⌜ r ≡ amplitudes p (since x) ⌝ }
+    ensures { λ q. ⌜ q ≡ amplitudes p (since x) ⌝ }
 {
     match p {
-        Place::End(r) => Amplitudes {
-            xc: r.xc * 1024,
-            xs: r.xs * 1024,
-        },
-        Place::Between(a, b) => {
-            let l = factor_of(b.day - a.day, x - date_of(a));
-            Amplitudes {
-                xc: mixed_of(a.xc, b.xc, l),
-                xs: mixed_of(a.xs, b.xs, l),
-            }
-        }
+        Place::End(r) => amplitudes_end(r),
+        Place::Between(a, b) => amplitudes_between(a, b, x),
     }
 }
 
@@ -177,7 +189,7 @@ fn angle_at(x: u64) -> u64
 
 // Ten times c cos - s sin, to the nearest whole nanoarcsecond.
 fn offset_of(c: i64, s: i64, cos: i64, sin: i64) -> i64
-    requires { ⌜ (natAbs c ≤ widest) × (natAbs s ≤ widest) × (natAbs cos < 2 ^ 32) × (natAbs sin < 2 ^ 32) ⌝ }
+    requires { ⌜ OffsetBounds c s cos sin ⌝ }
     ensures { λ r. ⌜ r ≡ offset c s cos sin ⌝ }
 {
     (10 * (c * cos - s * sin) + 1099511627776) >> 41
@@ -208,8 +220,8 @@ fn uncertainty_end(r: Row, x: u64) -> u64
     20 * r.uncertainty + round_up(265 * apart(x, date_of(r)), 86400000000)
 }
 
-// Twice u between two rows that are `days` apart, `after` microseconds after the first, rounded up.
-fn uncertainty_between(u: u64, v: u64, days: u64, after: u64) -> u64
+// Twice what is between u and v, which are `days` apart, `after` microseconds after u, rounded up.
+fn uncertainty_mixed(u: u64, v: u64, days: u64, after: u64) -> u64
     requires { ⌜ (u ≤ largest) × (v ≤ largest) × (0 < days) × (days ≤ lastRowDay) × (after < days * dayMicros) ⌝ }
     ensures { λ r. ⌜ r ≡ roundUp (20 * (u * (days * dayMicros - after) + v * after)) (days * dayMicros) ⌝ }
 {
@@ -219,15 +231,20 @@ fn uncertainty_between(u: u64, v: u64, days: u64, after: u64) -> u64
     round_up(20 * (u * (days - 1 - whole) + v * whole) + part, days)
 }
 
+fn uncertainty_between(a: Row, b: Row, x: u64) -> u64
+    requires { ⌜ AcceptedRow a × AcceptedRow b × Inside a b x ⌝ }
+    ensures { λ q. ⌜ q ≡ uncertaintyAt (Place.Between a b) (since x) ⌝ }
+{
+    uncertainty_mixed(a.uncertainty, b.uncertainty, b.day - a.day, x - date_of(a))
+}
+
 fn uncertainty_of(p: Place, x: u64) -> u64
     requires { ⌜ Placed p x × (x ≤ latest) ⌝ }
     ensures { λ r. ⌜ r ≡ uncertaintyAt p (since x) ⌝ }
 {
     match p {
         Place::End(r) => uncertainty_end(r, x),
-        Place::Between(a, b) => {
-            uncertainty_between(a.uncertainty, b.uncertainty, b.day - a.day, x - date_of(a))
-        }
+        Place::Between(a, b) => uncertainty_between(a, b, x),
     }
 }
 
