@@ -1,6 +1,6 @@
 -- The rules of a table as a test that computes, the built-in rows, and a table that is lent.
 -- Assumes nothing.
-use mathlib.Core.Path.{_≡_, refl, sym, _∙_, ap, ap₂, subst}
+use mathlib.Core.Path.{_≡_, refl, sym, _∙_, ap, subst}
 use mathlib.Core.Bool.{Bool, true, _&&_}
 use mathlib.Core.List.{List, [], _∷_}
 use Prim.Native.Nat.{ℕ, zero, suc, _≤_, _<_}
@@ -11,7 +11,7 @@ use lib.IntN.{ℤ, natAbs}
 use Rattle.algebra.proofs.Tests.{and-split, every, each}
 use Rattle.nutation.specs.declared.Row.{Row}
 use Rattle.nutation.specs.Table.{row, rowAt, firstRowDay, lastRowDay, largest, AcceptedRow, AcceptedTable, builtIn}
-use Rattle.nutation.specs.Inner.{numbersOf, numbers, rowOf, rowsOf, Lent}
+use Rattle.nutation.specs.Inner.{numbersOf, numbers, rowsOf, Lent}
 
 -- ---- the test
 

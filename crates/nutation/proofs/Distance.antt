@@ -2,7 +2,7 @@
 -- Assumes nothing.
 use mathlib.Core.Path.{_≡_, refl, sym, _∙_, ap, subst}
 use mathlib.Core.List.{List}
-use Prim.Native.Nat.{ℕ, _+_, _*_, _-_, _/_, _^_, _≤_, _<_}
+use Prim.Native.Nat.{ℕ, _+_, _*_, _-_, _^_, _≤_, _<_}
 use native.Mathlib.Nat as N
 use native.Mathlib.Nat.{le-trans, le-of-eq}
 use native.Mathlib.Omega.{arith}
@@ -40,7 +40,7 @@ use Rattle.nutation.proofs.Interpolation.{parts-some, amplitude-near, v
 
 -- ---- the angle: within 2 units of 2^-41 turn, but for whole turns
 
-abbrev pub angleDistance : ℕ
+abbrev angleDistance : ℕ
 angleDistance = 2
 
 -- 400 turns more than the exact angle
@@ -63,7 +63,7 @@ angle-units x h =
     alg₂ : (x k n q : ℤ) → k *ℤ (negℤ ((x -ℤ pos 5 *ℤ n) *ℤ pos 100) +ℤ pos 400 *ℤ q) ≡ k *ℤ (pos 500 *ℤ n +ℤ pos 400 *ℤ q) -ℤ k *ℤ pos 100 *ℤ x
     alg₂ x k n q = ring (x ▸ k ▸ n ▸ q ▸ end) (search quote depth 13) tt
 
-pub angle-near : (x : ℕ) → x ≤ latest → Turns (2 ^ 41) angleParts (pos (ourAngle x)) (pos (exactAngle (since x))) angleDistance
+angle-near : (x : ℕ) → x ≤ latest → Turns (2 ^ 41) angleParts (pos (ourAngle x)) (pos (exactAngle (since x))) angleDistance
 unfolding turned ourAngle since
 angle-near x h =
     turns-removed (lit≤ tt)

@@ -1,6 +1,6 @@
 -- An amplitude: ours is within 3 units of 2^-10 of the exact one. The cut to ten places and the factor's 27 make the distance.
 -- Assumes nothing.
-use mathlib.Core.Path.{_≡_, refl, sym, _∙_, ap}
+use mathlib.Core.Path.{_≡_, refl, sym, ap}
 use Prim.Native.Nat.{ℕ, _+_, _*_, _-_, _/_, _^_, _≤_, _<_, zero-le}
 use native.Mathlib.Nat as N
 use native.Mathlib.Nat.{le-trans, le-of-eq}
@@ -8,7 +8,6 @@ use native.Mathlib.Omega.{arith}
 use lib.Dec.{lit≤}
 use lib.IntN.{ℤ, pos, _+ℤ_, _-ℤ_, _*ℤ_, natAbs}
 use lib.Signed.{shrZ}
-use Rattle.calendar.specs.Limits.{dayMicros}
 use Rattle.algebra.specs.Near.{Near}
 use Rattle.algebra.proofs.Ring.{end, _▸_, ring, quote}
 use Rattle.algebra.proofs.Near.{near-as, near-trans, near-add, near-refl, near-scale, near-unscale}
@@ -19,7 +18,7 @@ use Rattle.nutation.specs.declared.Place.the-variants.{End, Between}
 use Rattle.nutation.specs.Table.{largest, AcceptedRow}
 use Rattle.nutation.specs.Exact.{rowDate, span, parts, value}
 use Rattle.nutation.specs.Ours.{factor, mixed, amplitude}
-use Rattle.nutation.specs.Inner.{since, dateMoment, Placed}
+use Rattle.nutation.specs.Inner.{since, Placed}
 use Rattle.nutation.proofs.Time.{after-is, after-natural}
 use Rattle.nutation.proofs.Sizes.{inside-span, after-less, between-small, minus-small}
 

@@ -1,13 +1,13 @@
 -- Where a moment x is among the rows: the place is an end's row or two neighbours around x, and the rising dates let one pair only be around x.
 -- Assumes nothing.
-use mathlib.Core.Path.{_≡_, sym, _∙_, ap, subst}
+use mathlib.Core.Path.{_≡_, sym, ap, subst}
 use mathlib.Core.Logic.{⊎-elim}
 use mathlib.Core.Bool.{Bool, true, false, not, cond}
 use mathlib.Core.List.{List, [], _∷_}
 use Prim.Native.Nat.{ℕ, zero, suc, _+_, _-_, _≤_, _<_, zero-le, suc-le-suc}
 use native.Mathlib.Nat as N
 use native.Mathlib.Omega.{arith}
-use lib.Dec.{T, leb, ltb, leb→le, le→leb, ltb→lt, nleb→lt, nltb→le, not-T}
+use lib.Dec.{T, ltb, leb→le, ltb→lt, nleb→lt, nltb→le, not-T}
 use lib.ListN.{length}
 use lib.Signed.{leZ}
 use borrow.Author.Tests.{le-leb, lt-leb}
@@ -77,7 +77,7 @@ started-some x (r ∷ rs) h k = cond-case (leZ (rowDate r) (since x)) (λ (n : �
 -- ---- the place by its cases
 
 -- what holds of the rows, and of two neighbours around x, holds of the place of x
-pub place-case : (P : Place → Type 0) (rows : List Row) (x : ℕ) → 0 < length rows → ((i : ℕ) → i < length rows → P (End (rowAt rows i)))
+place-case : (P : Place → Type 0) (rows : List Row) (x : ℕ) → 0 < length rows → ((i : ℕ) → i < length rows → P (End (rowAt rows i)))
     → ((i : ℕ) → suc i < length rows → Inside (rowAt rows i) (rowAt rows (suc i)) x → P (Between (rowAt rows i) (rowAt rows (suc i)))) → P (place rows (since x))
 unfolding place
 place-case P rows x some ends inside =
@@ -145,7 +145,7 @@ at-least m n f = nltb→le m n (not-T (ltb m n) (λ t. f (ltb→lt m n t)))
 clash : {x p q : ℕ} → x < p → p ≤ q → q ≤ x → ⊥
 clash h k l = omega arith
 
-pub bracket-is : (rows : List Row) → AcceptedTable rows → (x i : ℕ) → Bracket rows x i → started rows (since x) ≡ i + 1
+bracket-is : (rows : List Row) → AcceptedTable rows → (x i : ℕ) → Bracket rows x i → started rows (since x) ≡ i + 1
 bracket-is rows a x i b = N.le-antisymm (at-least (i + 1) s not-more) (at-least s (i + 1) not-less)
   where
     s : ℕ

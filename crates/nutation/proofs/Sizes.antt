@@ -43,12 +43,6 @@ module _ (a b : Row) (x : ℕ) (h : Inside a b x) where
       go : (a b : ℕ) → a ≤ x → x < b → x - a < b - a
       go a b h k = omega arith
 
-  pub days-some : 0 < b .day - a .day
-  days-some = go (b .day - a .day) after-less
-    where
-      go : (d : ℕ) → x - dateMoment a < d * dayMicros → 0 < d
-      go d h = omega arith
-
 -- whole days and the rest
 pub factor-steps : (n p : ℕ) → (n / dayMicros * 2 ^ 27 + n % dayMicros * 2 ^ 27 / dayMicros) / p ≡ n * 2 ^ 27 / (p * dayMicros)
 factor-steps n p = ap (λ (k : ℕ). k / p) whole ∙ N.div-div-eq-div-mul (n * 2 ^ 27) dayMicros p ∙ ap (λ (k : ℕ). n * 2 ^ 27 / k) (N.mul-comm dayMicros p)
@@ -92,7 +86,7 @@ module _ {c d : ℤ} {l : ℕ} (h : MixBounds c d l) where
   pub mixed-sum : SFits w64 (c *ℤ pos (2 ^ 27) +ℤ (d -ℤ c) *ℤ pos l)
   mixed-sum = small-fits (c *ℤ pos (2 ^ 27) +ℤ (d -ℤ c) *ℤ pos l) (lt-of-le-of-lt sum-small (lit≤ tt))
 
-  pub mixed-small : natAbs (mixed c d l) ≤ widest
+  mixed-small : natAbs (mixed c d l) ≤ widest
   unfolding mixed
   mixed-small = go (c *ℤ pos (2 ^ 27) +ℤ (d -ℤ c) *ℤ pos l) sum-small
     where

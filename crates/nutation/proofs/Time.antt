@@ -1,10 +1,9 @@
 -- The moment x and the microseconds n since J2000.0: x = n + 5 N, of instants and of rows' dates, so that tests and differences of one are those of
 -- the other.
 -- Assumes nothing.
-use mathlib.Core.Path.{_≡_, refl, sym, _∙_, ap, ap₂}
+use mathlib.Core.Path.{_≡_, refl, sym, _∙_, ap}
 use mathlib.Core.Bool.{Bool, true, false}
 use Prim.Native.Nat.{ℕ, zero, suc, _+_, _*_, _-_, _≤_, _<_}
-use native.Mathlib.Nat as N
 use native.Mathlib.Omega.{arith}
 use lib.Dec.{T, leb, ltb, leb→le, le→leb, ltb→lt, nltb→le}
 use lib.IntN.{ℤ, pos, _+ℤ_, _-ℤ_, _*ℤ_, natAbs}
@@ -22,7 +21,7 @@ use Rattle.nutation.specs.Exact.{rowDate, span}
 use Rattle.nutation.specs.Ours.{momentOf}
 use Rattle.nutation.specs.Inner.{since, dateMoment}
 
-pub date-is : (r : Row) → rowDate r ≡ since (dateMoment r)
+date-is : (r : Row) → rowDate r ≡ since (dateMoment r)
 unfolding rowDate since
 date-is r = go (r .day)
   where

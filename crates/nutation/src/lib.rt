@@ -2,7 +2,7 @@
 // The offsets are ours in whole numbers (specs/Ours.antt), within two nanoarcseconds of the exact ones (proofs/Distance.antt); the uncertainty is exact.
 use calendar::Acceptance;
 ghost use mathlib.Core.Path.{_≡_};
-ghost use Prim.Native.Nat.{ℕ, _+_, _-_, _*_, _/_, _^_, _≤_, _<_};
+ghost use Prim.Native.Nat.{_+_, _-_, _*_, _/_, _^_, _≤_, _<_};
 ghost use lib.IntN.{ℤ};
 ghost use lib.ListN.{length};
 ghost use Rattle.calendar.specs.Limits.{dayMicros};

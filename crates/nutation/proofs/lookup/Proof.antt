@@ -7,7 +7,6 @@ use lib.ListN.{length}
 use Rattle.nutation.specs.Table.{rowAt}
 use Rattle.nutation.specs.Inner.{dateMoment, rowsOf}
 use Rattle.nutation.proofs.Accepted.{rows-length}
-use borrow.Author.Needs.{needs}
 use Rattle.nutation.proofs.lookup.Statement.{statement}
 use Rattle.nutation.proofs.lookup.Tie as tie
 

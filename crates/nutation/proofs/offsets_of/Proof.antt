@@ -1,8 +1,8 @@
 -- `nutation::offsets_of` meets its contract: the amplitudes are within 1000 microarcseconds, and the angle is below a turn. Assumes nothing.
 use mathlib.Core.Path.{_≡_, sym, _∙_, ap}
-use Prim.Native.Nat.{ℕ, _%_, _^_, _≤_, _<_}
+use Prim.Native.Nat.{ℕ, _%_, _^_, _≤_}
 use native.Mathlib.Nat as N
-use lib.IntN.{ℤ, pos, negℤ, _-ℤ_, natAbs}
+use lib.IntN.{ℤ, pos, _-ℤ_, natAbs}
 use mir.Syntax.{w64}
 use mir.Val.{SFits, toZ, ofZ}
 use mir.Facts.{toZ-ofZ}
@@ -14,7 +14,7 @@ use Rattle.nutation.specs.declared.Place.{Place}
 use Rattle.nutation.specs.declared.Amplitudes.{Amplitudes}
 use Rattle.nutation.specs.declared.Offsets.{Offsets}
 use Rattle.nutation.specs.Ours.{momentOf, ourAngle, ourXC, ourXS, ourYS, offset, offsetsAt}
-use Rattle.nutation.specs.Inner.{since, amplitudes, widest, OffsetBounds}
+use Rattle.nutation.specs.Inner.{since, amplitudes, widest}
 use Rattle.nutation.proofs.Time.{moment-back}
 use Rattle.nutation.proofs.Sizes.{amplitude-small, minus-fits, angle-less}
 use borrow.Author.Needs.{needs}

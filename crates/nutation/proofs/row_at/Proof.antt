@@ -1,14 +1,12 @@
 -- `nutation::row_at` meets its contract: the days and the uncertainties of an accepted table are natural numbers, and each number is itself as an i64. Assumes nothing.
-use mathlib.Core.Path.{_≡_, refl}
+use mathlib.Core.Path.{refl}
 use mathlib.Core.List.{[]}
-use Prim.Native.Nat.{ℕ, _≤_, _<_, _^_}
 use native.Mathlib.Omega.{arith}
 use lib.IntN.{pos}
 use lib.ListN.{getD}
 use mir.Syntax.{w64}
 use mir.Val.{SFits}
 use mir.Facts.{toZ-ofZ}
-use Rattle.nutation.specs.Table.{lastRowDay, largest}
 use Rattle.nutation.proofs.Accepted.{lent-numbers, lent-row}
 use borrow.Author.Needs.{needs}
 use Rattle.nutation.proofs.row_at.Statement.{statement}
