@@ -2,3 +2,4 @@
 mod calendar_calls;
 mod clock_calls;
 mod tide_calls;
+mod nutation_calls;
