@@ -30,8 +30,9 @@ use Rattle.arguments.proofs.Bounds.{moment-le}
 use Rattle.nutation.specs.declared.Row.{Row}
 use Rattle.nutation.specs.declared.Place.{Place}
 use Rattle.nutation.specs.Table.{largest, AcceptedRow, AcceptedTable}
-use Rattle.nutation.specs.Exact.{place, parts, value, XC, XS, YC, YS, angleParts, exactAngle, exactOffset, distance, Within, OffsetsNear}
+use Rattle.nutation.specs.Exact.{place, parts, value, XC, XS, YC, YS, angleParts, exactAngle, exactOffset}
 use Rattle.nutation.specs.Ours.{momentOf, startAngle, angleRate, ourAngle, amplitude, ourXC, ourXS, ourYC, ourYS, offset, ourOffset, offsetsAt, ourOffsets}
+use Rattle.nutation.specs.Claims.{distance, Within, OffsetsNear}
 use Rattle.nutation.specs.Inner.{since, Placed}
 use Rattle.nutation.proofs.Time.{instant-is, moment-back}
 use Rattle.nutation.proofs.Places.{placed}

@@ -5,4 +5,4 @@ pub mod Sizes
 pub mod Rounding
 pub mod Interpolation
 pub mod Distance
-pub mod Answers
+pub mod Promises

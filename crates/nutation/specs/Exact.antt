@@ -1,22 +1,19 @@
 -- The exact offsets of the free core nutation and their uncertainty, of any table, at n microseconds since J2000.0. A number that need not be whole
 -- is a numerator over a denominator.
 -- Assumes nothing.
-use mathlib.Core.Path.{_≡_}
 use mathlib.Core.Bool.{cond}
 use mathlib.Core.List.{List, [], _∷_}
-use Prim.Native.Nat.{ℕ, suc, _+_, _*_, _-_, _/_, _<_}
+use Prim.Native.Nat.{ℕ, suc, _+_, _*_, _-_, _/_}
 use lib.IntN.{ℤ, pos, negℤ, _+ℤ_, _-ℤ_, _*ℤ_, natAbs}
 use lib.ListN.{length}
 use lib.Signed.{leZ}
 use Rattle.calendar.specs.Limits.{dayMicros}
 use Rattle.algebra.specs.Integers.{+_, remainder}
-use Rattle.algebra.specs.Near.{Near}
 use Rattle.sine.specs.Exact.{sineDen, exactSine, exactCosine}
 use Rattle.arguments.specs.Exact.{sinceJ2000}
 use Rattle.nutation.specs.declared.Row.{Row}
 use Rattle.nutation.specs.declared.Place.{Place}
 use Rattle.nutation.specs.declared.Place.the-variants.{End, Between}
-use Rattle.nutation.specs.declared.Offsets.{Offsets}
 use Rattle.nutation.specs.Table.{rowAt}
 
 -- ---- where n is among the rows
@@ -107,18 +104,3 @@ uncertaintyAt p n = roundUp (2 * (10 * uValue p n)) (uParts p)
 
 abbrev pub exactUncertainty : List Row → ℤ → ℕ
 exactUncertainty rows n = uncertaintyAt (place rows n) n
-
--- ---- what is promised of an answer: whole nanoarcseconds at most `distance` from the exact offsets, and the exact uncertainty
-
-abbrev pub distance : ℕ
-distance = 2
-
--- a whole number z and the fraction num / den
-abbrev pub Within : ℤ → ℤ → ℕ → Type 0
-Within z num den = Near (z *ℤ pos den) num (distance * den)
-
-pub record OffsetsNear (rows : List Row) (n : ℤ) (o : Offsets) : Type 0 where
-  pub den-some : 0 < exactDen rows n
-  pub x-near : Within (o .x) (exactX rows n) (exactDen rows n)
-  pub y-near : Within (o .y) (exactY rows n) (exactDen rows n)
-  pub uncertainty-is : o .uncertainty ≡ exactUncertainty rows n

@@ -2,13 +2,13 @@
 -- Assumes nothing.
 use mathlib.Core.Path.{_≡_, refl, ap}
 use mathlib.Core.Bool.{Bool, true, false, cond}
-use mathlib.Core.List.{List}
+use mathlib.Core.List.{List, [], _∷_}
 use Prim.Native.Nat.{ℕ, _+_, _*_, _≤_, _<_}
 use native.Mathlib.Omega.{arith}
 use lib.Dec.{T, leb, ltb, ltb→lt}
 use lib.IntN.{ℤ, pos, _-ℤ_, _*ℤ_, natAbs}
-use borrow.Author.Tests.{leb-true, le-leb}
 use Rattle.calendar.specs.Limits.{dayMicros}
+use Rattle.calendar.specs.Refusals.{case, firstRefusal}
 use Rattle.calendar.specs.Instants.{outside, indexAt, acceptance, IsAccepted}
 use Rattle.calendar.specs.declared.Acceptance.{Acceptance}
 use Rattle.calendar.specs.declared.Acceptance.the-variants.{Accepted, NotAccepted}
@@ -22,10 +22,11 @@ use Rattle.sine.specs.Ours.{nested, sineQuarter, quarterTurn, ourSine, ourCosin
 use Rattle.arguments.specs.Exact.{sinceJ2000}
 use Rattle.nutation.specs.declared.Row.{Row}
 use Rattle.nutation.specs.declared.Offsets.{Offsets}
-use Rattle.nutation.specs.declared.NutationAnswer.the-variants.{Given, Refused}
+use Rattle.nutation.specs.declared.NutationAnswer.the-variants.{Given}
 use Rattle.nutation.specs.Table.{AcceptedTable, builtIn}
-use Rattle.nutation.specs.Exact.{rowDate, started, place, span, exactX, exactY, exactDen, distance, Within, OffsetsNear}
+use Rattle.nutation.specs.Exact.{rowDate, started, place, span, exactX, exactY, exactDen}
 use Rattle.nutation.specs.Ours.{momentOf, ourAngle, factor, mixed, amplitude, offset, offsetsAt, ourOffsets, nutationBy, nutationOf, refusalOf}
+use Rattle.nutation.specs.Claims.{distance, Within, OffsetsNear}
 use Rattle.nutation.proofs.Accepted.{builtIn-accepted}
 use Rattle.nutation.proofs.Distance.{offsets-near}
 
@@ -47,43 +48,15 @@ nutation-near d m a = answer-near builtIn builtIn-accepted d m a
 
 -- ---- refusals
 
-pub record RefusedExactly (d : ℤ) (m : ℕ) : Type 0 where
-  pub eight : outside d ≡ true → nutationOf d m ≡ Refused 8
-  pub eight-only : refusalOf (nutationOf d m) ≡ 8 → outside d ≡ true
-  pub nine : outside d ≡ false → dayMicros ≤ m → nutationOf d m ≡ Refused 9
-  pub nine-only : refusalOf (nutationOf d m) ≡ 9 → (outside d ≡ false) × (dayMicros ≤ m)
-  pub none : IsAccepted d m → refusalOf (nutationOf d m) ≡ 0
-  pub none-only : refusalOf (nutationOf d m) ≡ 0 → IsAccepted d m
+refusal-by : (a b : Bool) (i : ℕ) (n : ℤ) → refusalOf (nutationBy (cond a (NotAccepted 8) (cond b (NotAccepted 9) (Accepted i))) builtIn n) ≡ firstRefusal (case 8 a ∷ case 9 b ∷ [])
+refusal-by true b i n = refl
+refusal-by false true i n = refl
+refusal-by false false i n = refl
 
--- PROMISE. Refusal 8 is given exactly for a day number out of range, 9 exactly for a day number in range with too many microseconds, and otherwise none.
-pub refused-exactly : (d : ℤ) (m : ℕ) → RefusedExactly d m
+-- PROMISE. The offsets are refused by the first of 8 and 9 that applies, and by nothing else.
+pub nutation-refusal : (d : ℤ) (m : ℕ) → refusalOf (nutationOf d m) ≡ firstRefusal (case 8 (outside d) ∷ case 9 (leb dayMicros m) ∷ [])
 unfolding nutationOf acceptance
-refused-exactly d m = record {
-  eight = λ p. simp p;
-  eight-only = only-eight (outside d) (leb dayMicros m);
-  nine = λ p h. simp (p, le-leb dayMicros m h);
-  nine-only = λ e. let q = only-nine (outside d) (leb dayMicros m) e in (q .0, leb-true dayMicros m (q .1));
-  none = λ a. ap (λ (q : Acceptance). refusalOf (nutationBy q builtIn (sinceJ2000 d m))) a;
-  none-only = λ e. let q = only-none (outside d) (leb dayMicros m) e in simp (q .0, q .1);
-}
-  where
-    number : Bool → Bool → ℕ
-    number a b = refusalOf (nutationBy (cond a (NotAccepted 8) (cond b (NotAccepted 9) (Accepted (indexAt d)))) builtIn (sinceJ2000 d m))
-
-    only-eight : (a b : Bool) → number a b ≡ 8 → a ≡ true
-    only-eight true b e = refl
-    only-eight false true e = let v : ⊥ = omega arith in absurd v
-    only-eight false false e = let v : ⊥ = omega arith in absurd v
-
-    only-nine : (a b : Bool) → number a b ≡ 9 → (a ≡ false) × (b ≡ true)
-    only-nine true b e = let v : ⊥ = omega arith in absurd v
-    only-nine false true e = (refl, refl)
-    only-nine false false e = let v : ⊥ = omega arith in absurd v
-
-    only-none : (a b : Bool) → number a b ≡ 0 → (a ≡ false) × (b ≡ false)
-    only-none true b e = let v : ⊥ = omega arith in absurd v
-    only-none false true e = let v : ⊥ = omega arith in absurd v
-    only-none false false e = (refl, refl)
+nutation-refusal d m = refusal-by (outside d) (leb dayMicros m) _ (sinceJ2000 d m)
 
 -- ---- no constant
 
