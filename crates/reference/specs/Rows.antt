@@ -8,6 +8,7 @@ use Rattle.calendar.specs.declared.DayAnswer.the-variants.{Day, NoDay}
 use Rattle.clock.specs.Words.{words, splitOf, joinOf}
 use Rattle.clock.specs.declared.SplitAnswer.the-variants.{Split}
 use Rattle.clock.specs.declared.JoinAnswer.the-variants.{NoJoin}
+use Rattle.nutation.specs.Ours.{nutationOf, uncertaintyOf}
 
 -- a row, by the kind of its statement
 pub data Row : Type 0 where
@@ -15,6 +16,7 @@ pub data Row : Type 0 where
   date-refused : (year month day refusal : ℕ) → Row
   time-word-is : (day micros time : ℕ) → Row
   words-refused : (day time refusal : ℕ) → Row
+  uncertainty-is : (day micros uncertainty : ℕ) → Row
 
 -- what a row says
 unfoldable pub Says : Row → Type 0
@@ -22,6 +24,7 @@ Says (date-is y m d n) = dayOf y m d ≡ Day (pos n)
 Says (date-refused y m d r) = dayOf y m d ≡ NoDay r
 Says (time-word-is d m t) = splitOf (pos d) m ≡ Split (words (pos d) t)
 Says (words-refused d t r) = joinOf (pos d) t ≡ NoJoin r
+Says (uncertainty-is d m u) = uncertaintyOf (nutationOf (pos d) m) ≡ u
 
 unfoldable pub EveryRow : List Row → Type 0
 EveryRow [] = Unit
@@ -40,4 +43,8 @@ rows =
     ∷ date-refused 2101 1 1 1
     ∷ time-word-is 54465 0 137438953472
     ∷ words-refused 54465 274877906944 10
+    ∷ uncertainty-is 45700 0 39440
+    ∷ uncertainty-is 45699 0 39705
+    ∷ uncertainty-is 45883 0 30840
+    ∷ uncertainty-is 56294 0 3985
     ∷ []
