@@ -12,7 +12,7 @@ use Rattle.algebra.proofs.Ring.{end, _▸_, _▹_, ring, quote, ringN, quoteN}
 use Rattle.nutation.specs.declared.Row.{Row}
 use Rattle.nutation.specs.declared.Place.the-variants.{End, Between}
 use Rattle.nutation.specs.Exact.{span, value, uValue, uParts, roundUp, uncertaintyAt}
-use Rattle.nutation.specs.Inner.{since, dateMoment, Inside}
+use Rattle.nutation.specs.Inner.{since, dateMoment, Inside, twiceBetween}
 use Rattle.nutation.proofs.Time.{apart-is, after-is, after-natural}
 use Rattle.nutation.proofs.Sizes.{inside-span, after-less}
 
@@ -34,17 +34,25 @@ between-natural u v w n h = ap (λ (z : ℤ). pos u *ℤ z +ℤ (pos v -ℤ pos 
     alg : (u v r n : ℤ) → u *ℤ (r +ℤ n) +ℤ (v -ℤ u) *ℤ n ≡ u *ℤ r +ℤ v *ℤ n
     alg u v r n = ring (u ▸ v ▸ r ▸ n ▸ end) (search quote depth 13) tt
 
-pub between-is : (a b : Row) (x : ℕ) → Inside a b x → let w = (b .day - a .day) * dayMicros in let n = x - dateMoment a in
-    uncertaintyAt (Between a b) (since x) ≡ roundUp (20 * (a .uncertainty * (w - n) + b .uncertainty * n)) w
-unfolding uncertaintyAt uValue uParts value
+pub between-is : (a b : Row) (x : ℕ) → Inside a b x
+    → uncertaintyAt (Between a b) (since x) ≡ twiceBetween (a .uncertainty) (b .uncertainty) ((b .day - a .day) * dayMicros) (x - dateMoment a)
+unfolding uncertaintyAt uValue uParts value twiceBetween
 between-is a b x h =
-    ap (λ (z : ℤ). roundUp (2 * (10 * natAbs (pos (a .uncertainty) *ℤ pos (span a b) +ℤ (pos (b .uncertainty) -ℤ pos (a .uncertainty)) *ℤ z))) (span a b)) (after-natural x a (h .low))
-    ∙ ap₂ (λ (w n : ℕ). roundUp (2 * (10 * natAbs (pos (a .uncertainty) *ℤ pos w +ℤ (pos (b .uncertainty) -ℤ pos (a .uncertainty)) *ℤ pos n))) w) (inside-span a b x h) (after-is x a (h .low))
-    ∙ ap (λ (z : ℤ). roundUp (2 * (10 * natAbs z)) ((b .day - a .day) * dayMicros)) (between-natural (a .uncertainty) (b .uncertainty) ((b .day - a .day) * dayMicros) (x - dateMoment a) (N.le-of-lt (after-less a b x h)))
-    ∙ ap (λ (k : ℕ). roundUp k ((b .day - a .day) * dayMicros)) (twice (a .uncertainty * ((b .day - a .day) * dayMicros - (x - dateMoment a)) + b .uncertainty * (x - dateMoment a)))
+    ap (λ (z : ℤ). roundUp (2 * (10 * natAbs (pos u *ℤ pos (span a b) +ℤ (pos v -ℤ pos u) *ℤ z))) (span a b)) (after-natural x a (h .low))
+    ∙ ap₂ (λ (w n : ℕ). roundUp (2 * (10 * natAbs (pos u *ℤ pos w +ℤ (pos v -ℤ pos u) *ℤ pos n))) w) (inside-span a b x h) (after-is x a (h .low))
+    ∙ go ((b .day - a .day) * dayMicros) (x - dateMoment a) (N.le-of-lt (after-less a b x h))
   where
+    u : ℕ
+    u = a .uncertainty
+
+    v : ℕ
+    v = b .uncertainty
+
     twice : (k : ℕ) → 2 * (10 * k) ≡ 20 * k
     twice k = omega arith
+
+    go : (w n : ℕ) → n ≤ w → roundUp (2 * (10 * natAbs (pos u *ℤ pos w +ℤ (pos v -ℤ pos u) *ℤ pos n))) w ≡ twiceBetween u v w n
+    go w n k = ap (λ (z : ℤ). roundUp (2 * (10 * natAbs z)) w) (between-natural u v w n k) ∙ ap (λ (k : ℕ). roundUp k w) (twice (u * (w - n) + v * n))
 
 round-up-low : (n d : ℕ) → 0 < d → n ≤ roundUp n d * d
 round-up-low n d h = omega (arith, N.lt-div-mul-add {a = n + (d - 1)} h)
@@ -74,7 +82,8 @@ round-up-twice a b p e hp he = round-up-is (a * e + b) (p * e) q (N.mul-pos hp h
 -- whole days and the rest, each rounded up
 pub between-steps : (u v p n : ℕ) → 0 < p → n < p * dayMicros
     → roundUp (20 * (u * (p - 1 - n / dayMicros) + v * (n / dayMicros)) + roundUp (20 * (u * (dayMicros - n % dayMicros) + v * (n % dayMicros))) dayMicros) p
-    ≡ roundUp (20 * (u * (p * dayMicros - n) + v * n)) (p * dayMicros)
+    ≡ twiceBetween u v (p * dayMicros) n
+unfolding twiceBetween
 between-steps u v p n hp hn =
     sym (ap (λ (k : ℕ). roundUp k (p * dayMicros)) whole
     ∙ round-up-twice (20 * (u * (p - 1 - n / dayMicros) + v * (n / dayMicros))) (20 * (u * (dayMicros - n % dayMicros) + v * (n % dayMicros))) p dayMicros hp (lit≤ tt))

@@ -2,7 +2,7 @@
 -- Assumes nothing.
 use mathlib.Core.Path.{_≡_}
 use mathlib.Core.List.{List, [], _∷_}
-use Prim.Native.Nat.{ℕ, _+_, _*_, _^_, _≤_, _<_}
+use Prim.Native.Nat.{ℕ, _+_, _*_, _-_, _^_, _≤_, _<_}
 use lib.IntN.{ℤ, pos, _-ℤ_, _*ℤ_, natAbs}
 use lib.ListN.{length, getD}
 use Rattle.arguments.specs.Exact.{century}
@@ -12,6 +12,7 @@ use Rattle.nutation.specs.declared.Place.{Place}
 use Rattle.nutation.specs.declared.Place.the-variants.{End, Between}
 use Rattle.nutation.specs.declared.Amplitudes.{Amplitudes}
 use Rattle.nutation.specs.Table.{row, rowAt, largest, AcceptedRow, AcceptedTable}
+use Rattle.nutation.specs.Exact.{roundUp}
 use Rattle.nutation.specs.Ours.{ourXC, ourXS}
 
 -- ---- time: the code counts x, the microseconds since five centuries before J2000.0
@@ -83,3 +84,7 @@ pub record OffsetBounds (c s cos sin : ℤ) : Type 0 where
   pub s-small : natAbs s ≤ widest
   pub cos-small : natAbs cos < 2 ^ 32
   pub sin-small : natAbs sin < 2 ^ 32
+
+-- ---- a step to the uncertainty: twice what is between u and v, n of w on the way, rounded up
+unfoldable pub twiceBetween : (u v w n : ℕ) → ℕ
+twiceBetween u v w n = roundUp (20 * (u * (w - n) + v * n)) w

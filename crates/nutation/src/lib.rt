@@ -11,7 +11,7 @@ ghost use Rattle.arguments.specs.Inner.{latest};
 ghost use Rattle.nutation.specs.Table.{rowAt, lastRowDay, largest, AcceptedRow};
 ghost use Rattle.nutation.specs.Exact.{place, roundUp, uncertaintyAt};
 ghost use Rattle.nutation.specs.Ours.{ourAngle, mixed, offset, offsetsAt, nutationOf};
-ghost use Rattle.nutation.specs.Inner.{since, dateMoment, rowsOf, Lent, Bracket, Inside, Placed, amplitudes, MixBounds, OffsetBounds};
+ghost use Rattle.nutation.specs.Inner.{since, dateMoment, rowsOf, Lent, Bracket, Inside, Placed, amplitudes, MixBounds, OffsetBounds, twiceBetween};
 
 // A row of a table: the day number of its date, the amplitudes and the uncertainty in hundredths of a microarcsecond.
 struct Row {
@@ -223,7 +223,7 @@ fn uncertainty_end(r: Row, x: u64) -> u64
 // Twice what is between u and v, which are `days` apart, `after` microseconds after u, rounded up.
 fn uncertainty_mixed(u: u64, v: u64, days: u64, after: u64) -> u64
     requires { ⌜ (u ≤ largest) × (v ≤ largest) × (0 < days) × (days ≤ lastRowDay) × (after < days * dayMicros) ⌝ }
-    ensures { λ r. ⌜ r ≡ roundUp (20 * (u * (days * dayMicros - after) + v * after)) (days * dayMicros) ⌝ }
+    ensures { λ r. ⌜ r ≡ twiceBetween u v (days * dayMicros) after ⌝ }
 {
     let whole = after / 86400000000;
     let micros = after % 86400000000;

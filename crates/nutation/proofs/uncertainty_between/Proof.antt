@@ -1,8 +1,8 @@
 -- `nutation::uncertainty_between` meets its contract. Assumes nothing.
 use mathlib.Core.Path.{sym, _∙_, ap}
-use Prim.Native.Nat.{ℕ, _+_, _*_, _-_}
+use Prim.Native.Nat.{ℕ, _*_, _-_}
 use Rattle.calendar.specs.Limits.{dayMicros}
-use Rattle.nutation.specs.Exact.{roundUp}
+use Rattle.nutation.specs.Inner.{twiceBetween}
 use Rattle.nutation.proofs.Rounding.{between-is}
 use borrow.Author.Needs.{needs}
 use Rattle.nutation.proofs.uncertainty_between.Statement.{statement}
@@ -23,9 +23,8 @@ uncertainty-mixed-requires c κs = search needs
 returns : tie.Need-returns
 returns c =
     let s = c .before .before .before .before in
-    let w = (s .args .b .day - s .args .a .day) * dayMicros in
     c .uncertainty-mixed .ensures
-    ∙ ap (λ (k : ℕ). roundUp (20 * (s .args .a .uncertainty * (w - (s .args .x - k)) + s .args .b .uncertainty * (s .args .x - k))) w) (c .before .date-of .ensures)
+    ∙ ap (λ (k : ℕ). twiceBetween (s .args .a .uncertainty) (s .args .b .uncertainty) ((s .args .b .day - s .args .a .day) * dayMicros) (s .args .x - k)) (c .before .date-of .ensures)
     ∙ sym (between-is (s .args .a) (s .args .b) (s .args .x) (s .pre .2))
 
 pub uncertainty-between-spec : {M : Type 1} → statement M
