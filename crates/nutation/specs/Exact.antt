@@ -96,9 +96,11 @@ unfoldable pub uParts : Place → ℕ
 uParts (End r) = 100 * dayMicros
 uParts (Between a b) = span a b
 
+-- n / d, rounded up
 abbrev pub roundUp : ℕ → ℕ → ℕ
 roundUp n d = (n + (d - 1)) / d
 
+-- a hundredth of a microarcsecond is 10 nanoarcseconds
 unfoldable pub uncertaintyAt : Place → ℤ → ℕ
 uncertaintyAt p n = roundUp (2 * (10 * uValue p n)) (uParts p)
 
