@@ -1,7 +1,7 @@
 -- Demand 3 holds. Assumes nothing.
 use Rattle.zonal.proofs.Promises.{accepted-answered}
 use Rattle.zonal.proofs.Worked.{case-accepted, no-constant}
-use Rattle.nutation.proofs.Promises.{nutation-near}
+use Rattle.nutation.proofs.Promises.{nutation-near, no-constant-x, no-constant-y}
 use Rattle.promises.specs.Distance.{Distance}
 
 -- PROMISE. Demand 3: distance.
@@ -11,4 +11,5 @@ distance = record {
   corrections-near = accepted-answered;
   corrections-vary = no-constant;
   offsets-near = nutation-near;
+  offsets-vary = λ c. (no-constant-x c, no-constant-y c);
 }

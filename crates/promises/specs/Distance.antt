@@ -9,6 +9,8 @@ use Rattle.zonal.specs.Within.{promised, Within, Answered}
 use Rattle.zonal.specs.declared.Corrections.{Corrections}
 use Rattle.nutation.specs.Table.{builtIn}
 use Rattle.nutation.specs.Ours.{nutationOf}
+use Rattle.nutation.specs.Exact.{exactX, exactY, exactDen}
+use Rattle.nutation.specs.Claims as nutation
 use Rattle.nutation.specs.Claims.{OffsetsNear}
 use Rattle.nutation.specs.declared.Offsets.{Offsets}
 use Rattle.nutation.specs.declared.NutationAnswer.the-variants.{Given}
@@ -23,3 +25,7 @@ pub record Distance : Type 0 where
       → (c .ut1 ≡ c′ .ut1 → ⊥) × (c .lod ≡ c′ .lod → ⊥) × (c .rate ≡ c′ .rate → ⊥)
   -- (f) every accepted instant is answered by two offsets within 2 nanoarcseconds of the exact ones, and the exact uncertainty
   pub offsets-near : (d : ℤ) (m : ℕ) → IsAccepted d m → (o : Offsets) × (nutationOf d m ≡ Given o) × OffsetsNear builtIn (sinceJ2000 d m) o
+  -- no constant offset would do
+  pub offsets-vary : (c : ℤ)
+      → (((d : ℤ) (m : ℕ) → IsAccepted d m → nutation.Within c (exactX builtIn (sinceJ2000 d m)) (exactDen builtIn (sinceJ2000 d m))) → ⊥)
+      × (((d : ℤ) (m : ℕ) → IsAccepted d m → nutation.Within c (exactY builtIn (sinceJ2000 d m)) (exactDen builtIn (sinceJ2000 d m))) → ⊥)
