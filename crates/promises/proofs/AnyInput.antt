@@ -26,6 +26,10 @@ use Rattle.zonal.specs.Ours as zonal
 use Rattle.zonal.specs.declared.ZonalAnswer.{ZonalAnswer}
 use Rattle.zonal.specs.declared.ZonalAnswer.the-variants as zonalCase
 use Rattle.zonal.proofs.Promises.{zonal-refusal}
+use Rattle.nutation.specs.Ours as nutation
+use Rattle.nutation.specs.declared.NutationAnswer.{NutationAnswer}
+use Rattle.nutation.specs.declared.NutationAnswer.the-variants as nutationCase
+use Rattle.nutation.proofs.Promises.{nutation-refusal}
 use Rattle.record.specs.Records.{recordDayOf, recordMicrosOf, recordUt1Of, recordLodOf, recordRateOf, readRefusalOf}
 use Rattle.record.specs.declared.ReadAnswer.{ReadAnswer}
 use Rattle.record.specs.declared.ReadAnswer.the-variants.{IsRecord, NoRecord}
@@ -66,6 +70,11 @@ zonal-zero : (a : ZonalAnswer)
 zonal-zero (zonalCase.Given c) = (given, given, given)
 zonal-zero (zonalCase.Refused n) = (λ _. refl, λ _. refl, λ _. refl)
 
+nutation-zero : (a : NutationAnswer)
+    → ZeroBeside nutation.refusalOf nutation.xOf (pos 0) a × ZeroBeside nutation.refusalOf nutation.yOf (pos 0) a × ZeroBeside nutation.refusalOf nutation.uncertaintyOf 0 a
+nutation-zero (nutationCase.Given o) = (given, given, given)
+nutation-zero (nutationCase.Refused n) = (λ _. refl, λ _. refl, λ _. refl)
+
 read-zero : (a : ReadAnswer)
     → ZeroBeside readRefusalOf recordDayOf (pos 0) a
     × ZeroBeside readRefusalOf recordMicrosOf 0 a
@@ -92,6 +101,8 @@ any-input-is-answered = record {
   phase-zero = tide-zero;
   corrections = zonal-refusal;
   corrections-zero = zonal-zero;
+  offsets = nutation-refusal;
+  offsets-zero = nutation-zero;
   record-write = write-refusal;
   record-write-keeps = λ d m ut1 lod rate old. write-keeps d m ut1 lod rate old .all;
   record-read = read-refusal;

@@ -1,2 +1,3 @@
 pub mod AnyInput
 pub mod Exactness
+pub mod Distance

@@ -25,6 +25,8 @@ use Rattle.tide.specs.declared.Doodson.{Doodson}
 use Rattle.tide.specs.declared.Answer as tideAnswer
 use Rattle.zonal.specs.Ours as zonal
 use Rattle.zonal.specs.declared.ZonalAnswer.{ZonalAnswer}
+use Rattle.nutation.specs.Ours as nutation
+use Rattle.nutation.specs.declared.NutationAnswer.{NutationAnswer}
 use Rattle.bigendian.specs.Numbers.{numberAt, wordSum}
 use Rattle.record.specs.Format.{recordLength, version}
 use Rattle.record.specs.Records.{writeRefusal, written, readOf, recordDayOf, recordMicrosOf, recordUt1Of, recordLodOf, recordRateOf, readRefusalOf}
@@ -61,6 +63,10 @@ pub record AnyInputIsAnswered : Type 0 where
   pub corrections : (d : ℤ) (m : ℕ) → zonal.refusalOf (zonal.zonalOf d m) ≡ firstRefusal (case 8 (outside d) ∷ case 9 (leb dayMicros m) ∷ [])
   pub corrections-zero : (a : ZonalAnswer)
       → ZeroBeside zonal.refusalOf zonal.ut1Of (pos 0) a × ZeroBeside zonal.refusalOf zonal.lodOf (pos 0) a × ZeroBeside zonal.refusalOf zonal.rateOf (pos 0) a
+  -- (f)
+  pub offsets : (d : ℤ) (m : ℕ) → nutation.refusalOf (nutation.nutationOf d m) ≡ firstRefusal (case 8 (outside d) ∷ case 9 (leb dayMicros m) ∷ [])
+  pub offsets-zero : (a : NutationAnswer)
+      → ZeroBeside nutation.refusalOf nutation.xOf (pos 0) a × ZeroBeside nutation.refusalOf nutation.yOf (pos 0) a × ZeroBeside nutation.refusalOf nutation.uncertaintyOf 0 a
   -- (g), one record
   pub record-write : (d : ℤ) (m n : ℕ) → writeRefusal d m n
       ≡ firstRefusal (case 8 (outside d) ∷ case 9 (leb dayMicros m) ∷ case 12 (ltb n recordLength) ∷ [])

@@ -1,2 +1,31 @@
--- Demand 3: distance.
+-- Demand 3: distance. At every accepted instant the corrections are within 20 nanoseconds, 200 picoseconds and 20 * 10^-20 radian per second of the
+-- exact sums over all 62 rows, and both offsets within 2 nanoarcseconds of the exact ones. A distance is over a denominator that is above 0.
 use Prim.Native.Nat.{ℕ}
+use mathlib.Core.Path.{_≡_}
+use lib.IntN.{ℤ, pos}
+use Rattle.calendar.specs.Instants.{IsAccepted}
+use Rattle.arguments.specs.Exact.{sinceJ2000}
+use Rattle.zonal.specs.Within.{promised, Within, Answered}
+use Rattle.zonal.specs.declared.Corrections.{Corrections}
+use Rattle.nutation.specs.Table.{builtIn}
+use Rattle.nutation.specs.Ours.{nutationOf}
+use Rattle.nutation.specs.Exact.{exactX, exactY, exactDen}
+use Rattle.nutation.specs.Claims as nutation
+use Rattle.nutation.specs.Claims.{OffsetsNear}
+use Rattle.nutation.specs.declared.Offsets.{Offsets}
+use Rattle.nutation.specs.declared.NutationAnswer.the-variants.{Given}
+
+pub record Distance : Type 0 where
+  -- an accepted instant exists: the instant of RG_ZONT2's own case
+  pub some-instant : IsAccepted (pos 54465) 0
+  -- (e) every accepted instant is answered by three numbers within the promised 20 ns, 200 ps and 20 units of the exact sums
+  pub corrections-near : (d : ℤ) (m : ℕ) → IsAccepted d m → Answered promised d m
+  -- no constant answer, zeros among them, would do: the numbers of two days a day apart differ
+  pub corrections-vary : (c c′ : Corrections) → Within promised (sinceJ2000 (pos 54465) 0) c → Within promised (sinceJ2000 (pos 54466) 0) c′
+      → (c .ut1 ≡ c′ .ut1 → ⊥) × (c .lod ≡ c′ .lod → ⊥) × (c .rate ≡ c′ .rate → ⊥)
+  -- (f) every accepted instant is answered by two offsets within 2 nanoarcseconds of the exact ones, and the exact uncertainty
+  pub offsets-near : (d : ℤ) (m : ℕ) → IsAccepted d m → (o : Offsets) × (nutationOf d m ≡ Given o) × OffsetsNear builtIn (sinceJ2000 d m) o
+  -- no constant offset would do
+  pub offsets-vary : (c : ℤ)
+      → (((d : ℤ) (m : ℕ) → IsAccepted d m → nutation.Within c (exactX builtIn (sinceJ2000 d m)) (exactDen builtIn (sinceJ2000 d m))) → ⊥)
+      × (((d : ℤ) (m : ℕ) → IsAccepted d m → nutation.Within c (exactY builtIn (sinceJ2000 d m)) (exactDen builtIn (sinceJ2000 d m))) → ⊥)

@@ -3,9 +3,51 @@ use mathlib.Core.Path.{refl}
 use Rattle.calendar.specs.Instants.{outside, indexAt, acceptance}
 use Rattle.calendar.specs.Dates.{leapYear, monthLengths, monthLength, sum, yearLength, daysOfYears, daysBefore, indexOf, numberOf, dayOf}
 use Rattle.clock.specs.Words.{splitOf, joinOf}
+use Rattle.bigendian.specs.Numbers.{wordSum}
+use Rattle.record.specs.Format.{recordBytes}
+use Rattle.record.specs.Records.{formRefusal, readOf}
+use Rattle.nutation.specs.Table.{builtIn}
+use Rattle.nutation.specs.Exact.{rowDate, started, place, span, value, uValue, uParts, uncertaintyAt}
+use Rattle.nutation.specs.Ours.{offsetsAt, nutationOf}
 use Rattle.reference.specs.Rows.{Says, EveryRow, rows}
 
 -- PROMISE. Every row of the list of reference values holds.
 pub every-row : EveryRow rows
-unfolding EveryRow Says rows outside indexAt acceptance leapYear monthLengths monthLength sum yearLength daysOfYears daysBefore indexOf numberOf dayOf splitOf joinOf
-every-row = (refl, (refl, (refl, (refl, (refl, (refl, (refl, (refl, (refl, (refl, (refl, tt)))))))))))
+unfolding EveryRow Says rows outside indexAt acceptance leapYear monthLengths monthLength sum yearLength daysOfYears daysBefore indexOf numberOf dayOf splitOf joinOf wordSum recordBytes formRefusal readOf builtIn rowDate started place span value uValue uParts uncertaintyAt offsetsAt nutationOf
+every-row = (
+  refl,
+  (
+    refl,
+    (
+      refl,
+      (
+        refl,
+        (
+          refl,
+          (
+            refl,
+            (
+              refl,
+              (
+                refl,
+                (
+                  refl,
+                  (
+                    refl,
+                    (
+                      refl,
+                      (
+                        (refl, refl),
+                        (refl, (refl, (refl, (refl, tt)))),
+                      ),
+                    ),
+                  ),
+                ),
+              ),
+            ),
+          ),
+        ),
+      ),
+    ),
+  ),
+)

@@ -2,12 +2,16 @@
 use Prim.Native.Nat.{ℕ}
 use mathlib.Core.Path.{_≡_}
 use mathlib.Core.List.{List, [], _∷_}
-use lib.IntN.{ℤ, pos}
+use lib.IntN.{ℤ, pos, negℤ}
 use Rattle.calendar.specs.Dates.{dayOf}
 use Rattle.calendar.specs.declared.DayAnswer.the-variants.{Day, NoDay}
-use Rattle.clock.specs.Words.{words, splitOf, joinOf}
+use Rattle.clock.specs.Words.{words, timeWord, splitOf, joinOf}
 use Rattle.clock.specs.declared.SplitAnswer.the-variants.{Split}
 use Rattle.clock.specs.declared.JoinAnswer.the-variants.{NoJoin}
+use Rattle.record.specs.Format.{recordBytes}
+use Rattle.record.specs.Records.{readOf}
+use Rattle.record.specs.declared.ReadAnswer.the-variants.{IsRecord}
+use Rattle.nutation.specs.Ours.{nutationOf, uncertaintyOf}
 
 -- a row, by the kind of its statement
 pub data Row : Type 0 where
@@ -15,6 +19,8 @@ pub data Row : Type 0 where
   date-refused : (year month day refusal : ℕ) → Row
   time-word-is : (day micros time : ℕ) → Row
   words-refused : (day time refusal : ℕ) → Row
+  record-is : (day micros : ℕ) (ut1 lod rate : ℤ) (bytes : List ℕ) → Row
+  uncertainty-is : (day micros uncertainty : ℕ) → Row
 
 -- what a row says
 unfoldable pub Says : Row → Type 0
@@ -22,6 +28,10 @@ Says (date-is y m d n) = dayOf y m d ≡ Day (pos n)
 Says (date-refused y m d r) = dayOf y m d ≡ NoDay r
 Says (time-word-is d m t) = splitOf (pos d) m ≡ Split (words (pos d) t)
 Says (words-refused d t r) = joinOf (pos d) t ≡ NoJoin r
+Says (record-is d m ut1 lod rate bytes) =
+    (recordBytes (words (pos d) (timeWord (pos d) m)) ut1 lod rate ≡ bytes)
+    × (readOf bytes ≡ IsRecord (record { day = pos d; micros = m; ut1 = ut1; lod = lod; rate = rate }))
+Says (uncertainty-is d m u) = uncertaintyOf (nutationOf (pos d) m) ≡ u
 
 unfoldable pub EveryRow : List Row → Type 0
 EveryRow [] = Unit
@@ -40,4 +50,10 @@ rows =
     ∷ date-refused 2101 1 1 1
     ∷ time-word-is 54465 0 137438953472
     ∷ words-refused 54465 274877906944 10
+    ∷ record-is 54465 0 (pos 1) (negℤ (pos 1)) (pos 0)
+    (0x00 ∷ 0x1E ∷ 0x01 ∷ 0x00 ∷ 0x00 ∷ 0x00 ∷ 0xD4 ∷ 0xC1 ∷ 0x00 ∷ 0x00 ∷ 0x00 ∷ 0x20 ∷ 0x00 ∷ 0x00 ∷ 0x00 ∷ 0x00 ∷ 0x00 ∷ 0x00 ∷ 0x00 ∷ 0x01 ∷ 0xFF ∷ 0xFF ∷ 0xFF ∷ 0xFF ∷ 0x00 ∷ 0x00 ∷ 0x00 ∷ 0x00 ∷ 0x2A ∷ 0x02 ∷ [])
+    ∷ uncertainty-is 45700 0 39440
+    ∷ uncertainty-is 45699 0 39705
+    ∷ uncertainty-is 45883 0 30840
+    ∷ uncertainty-is 56294 0 3985
     ∷ []

@@ -1,0 +1,27 @@
+-- `enfysgar::nutation_calls::enfys_nutation_x` meets its contract. Assumes nothing.
+use mathlib.Core.Path.{_≡_, _∙_, ap, sym}
+use mir.Facts.{toZ-ofZ}
+use lib.IntN.{ℤ}
+use Rattle.nutation.specs.Ours.{nutationOf, xOf}
+use borrow.Author.Needs.{needs}
+use Rattle.enfysgar.proofs.nutation_calls.enfys_nutation_x.Statement.{statement}
+use Rattle.enfysgar.proofs.nutation_calls.enfys_nutation_x.Tie as tie
+
+nutation-of-requires : tie.Need-nutation-of-requires
+nutation-of-requires c κs = search needs
+
+enum-known-o : tie.Need-enum-known-o
+enum-known-o c = search needs
+
+enum-told : tie.Need-enum-told
+enum-told c = search needs
+
+returns : tie.Need-returns
+returns c = toZ-ofZ (search needs) ∙ ap xOf (sym (c .before .before .o .given .1) ∙ (c .before .before .before .before .nutation-of .ensures ∙ ap (λ (d : ℤ). nutationOf d (c .before .before .before .before .before .args .micros)) (toZ-ofZ (c .before .before .before .before .before .fits .day))))
+
+returns-2 : tie.Need-returns-2
+returns-2 c = ap xOf (sym (c .enum-told .given .1) ∙ (c .before .before .nutation-of .ensures ∙ ap (λ (d : ℤ). nutationOf d (c .before .before .before .args .micros)) (toZ-ofZ (c .before .before .before .fits .day))))
+
+pub enfys-nutation-x-spec : {M : Type 1} → statement M
+enfys-nutation-x-spec =
+    tie.close (tie.spec nutation-of-requires enum-known-o enum-told returns returns-2)

@@ -1,0 +1,8 @@
+pub mod Time
+pub mod Accepted
+pub mod Places
+pub mod Sizes
+pub mod Rounding
+pub mod Interpolation
+pub mod Distance
+pub mod Promises

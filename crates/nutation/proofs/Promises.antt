@@ -1,0 +1,110 @@
+-- What is promised of the answers: where they are given and how near they are, the refusals, and that no constant would do.
+-- Assumes nothing.
+use mathlib.Core.Path.{_≡_, refl, ap}
+use mathlib.Core.Bool.{Bool, true, false, cond}
+use mathlib.Core.List.{List, [], _∷_}
+use Prim.Native.Nat.{ℕ, _+_, _*_, _≤_, _<_}
+use native.Mathlib.Omega.{arith}
+use lib.Dec.{T, leb, ltb, ltb→lt}
+use lib.IntN.{ℤ, pos, _-ℤ_, _*ℤ_, natAbs}
+use Rattle.calendar.specs.Limits.{dayMicros}
+use Rattle.calendar.specs.Refusals.{case, firstRefusal}
+use Rattle.calendar.specs.Instants.{outside, indexAt, acceptance, IsAccepted}
+use Rattle.calendar.specs.declared.Acceptance.{Acceptance}
+use Rattle.calendar.specs.declared.Acceptance.the-variants.{Accepted, NotAccepted}
+use Rattle.calendar.proofs.Index.{accepted-at}
+use Rattle.algebra.specs.Integers.{+_}
+use Rattle.algebra.specs.Near.{Near}
+use Rattle.algebra.proofs.Ring.{end, _▸_, ring, quote}
+use Rattle.algebra.proofs.Near.{near-as, near-sym, near-trans, near-unscale}
+use Rattle.sine.specs.Exact.{wholeTurn}
+use Rattle.sine.specs.Ours.{nested, sineQuarter, quarterTurn, ourSine, ourCosine}
+use Rattle.arguments.specs.Exact.{sinceJ2000}
+use Rattle.nutation.specs.declared.Row.{Row}
+use Rattle.nutation.specs.declared.Offsets.{Offsets}
+use Rattle.nutation.specs.declared.NutationAnswer.the-variants.{Given}
+use Rattle.nutation.specs.Table.{AcceptedTable, builtIn}
+use Rattle.nutation.specs.Exact.{rowDate, started, place, span, exactX, exactY, exactDen}
+use Rattle.nutation.specs.Ours.{momentOf, ourAngle, factor, mixed, amplitude, offset, offsetsAt, ourOffsets, nutationBy, nutationOf, refusalOf}
+use Rattle.nutation.specs.Claims.{distance, Within, OffsetsNear}
+use Rattle.nutation.proofs.Accepted.{builtIn-accepted}
+use Rattle.nutation.proofs.Distance.{offsets-near}
+
+-- ---- accepted instants
+
+near-here : (rows : List Row) → AcceptedTable rows → (d : ℤ) (m : ℕ) → IsAccepted d m → OffsetsNear rows (sinceJ2000 d m) (ourOffsets rows (sinceJ2000 d m))
+near-here rows t d m a = let k = accepted-at d m (indexAt d) a in offsets-near rows t d (indexAt d) m (k .is) (omega (arith, k .high)) (k .less)
+
+-- PROMISE. With any accepted table the answer at every accepted instant is given, both offsets within 2 nanoarcseconds of the exact ones and the
+-- uncertainty exact.
+pub answer-near : (rows : List Row) → AcceptedTable rows → (d : ℤ) (m : ℕ) → IsAccepted d m
+    → (o : Offsets) × (nutationBy (acceptance d m) rows (sinceJ2000 d m) ≡ Given o) × OffsetsNear rows (sinceJ2000 d m) o
+answer-near rows t d m a = (ourOffsets rows (sinceJ2000 d m), ap (λ (q : Acceptance). nutationBy q rows (sinceJ2000 d m)) a, near-here rows t d m a)
+
+-- PROMISE. So is the service's answer, of the built-in rows.
+pub nutation-near : (d : ℤ) (m : ℕ) → IsAccepted d m → (o : Offsets) × (nutationOf d m ≡ Given o) × OffsetsNear builtIn (sinceJ2000 d m) o
+unfolding nutationOf
+nutation-near d m a = answer-near builtIn builtIn-accepted d m a
+
+-- ---- refusals
+
+refusal-by : (a b : Bool) (i : ℕ) (n : ℤ) → refusalOf (nutationBy (cond a (NotAccepted 8) (cond b (NotAccepted 9) (Accepted i))) builtIn n) ≡ firstRefusal (case 8 a ∷ case 9 b ∷ [])
+refusal-by true b i n = refl
+refusal-by false true i n = refl
+refusal-by false false i n = refl
+
+-- PROMISE. The offsets are refused by the first of 8 and 9 that applies, and by nothing else.
+pub nutation-refusal : (d : ℤ) (m : ℕ) → refusalOf (nutationOf d m) ≡ firstRefusal (case 8 (outside d) ∷ case 9 (leb dayMicros m) ∷ [])
+unfolding nutationOf acceptance
+nutation-refusal d m = refusal-by (outside d) (leb dayMicros m) _ (sinceJ2000 d m)
+
+-- ---- no constant
+
+-- two whole numbers within the distance of one fraction
+close : {y z num : ℤ} {den : ℕ} → 0 < den → Within y num den → Within z num den → Near y z (2 * distance)
+close {y} {z} {num} {den} h p q = near-unscale den (near-as (near-trans p (near-sym q)) (alg y (pos den)) (alg z (pos den)) (twice den)) h
+  where
+    alg : (y k : ℤ) → k *ℤ y ≡ y *ℤ k
+    alg y k = ring (y ▸ k ▸ end) (search quote depth 13) tt
+
+    twice : (d : ℕ) → distance * d + distance * d ≤ d * (2 * distance) + 0
+    twice d = omega arith
+
+far : {c a b : ℤ} → Near c a (2 * distance) → Near c b (2 * distance) → T (ltb (4 * distance) (natAbs (a -ℤ b))) → ⊥
+far {c} {a} {b} p q t = clash (near-trans (near-sym p) q .by) (ltb→lt (4 * distance) (natAbs (a -ℤ b)) t)
+  where
+    clash : {k : ℕ} → k ≤ 2 * distance + 2 * distance → 4 * distance < k → ⊥
+    clash h l = omega arith
+
+-- two days of the table, 1987-01-01 and 2009-01-01
+early-accepted : IsAccepted (+ 46796) 0
+unfolding acceptance outside indexAt
+early-accepted = refl
+
+late-accepted : IsAccepted (+ 54832) 0
+unfolding acceptance outside indexAt
+late-accepted = refl
+
+-- either offset, ours and the exact one
+no-constant : (ours exact : ℤ → ℤ) → ((d : ℤ) (m : ℕ) → IsAccepted d m → Within (ours (sinceJ2000 d m)) (exact (sinceJ2000 d m)) (exactDen builtIn (sinceJ2000 d m)))
+    → T (ltb (4 * distance) (natAbs (ours (sinceJ2000 (+ 46796) 0) -ℤ ours (sinceJ2000 (+ 54832) 0))))
+    → (c : ℤ) → ((d : ℤ) (m : ℕ) → IsAccepted d m → Within c (exact (sinceJ2000 d m)) (exactDen builtIn (sinceJ2000 d m))) → ⊥
+no-constant ours exact near t c h = far (at (+ 46796) 0 early-accepted) (at (+ 54832) 0 late-accepted) t
+  where
+    at : (d : ℤ) (m : ℕ) → IsAccepted d m → Near c (ours (sinceJ2000 d m)) (2 * distance)
+    at d m a = close (near-here builtIn builtIn-accepted d m a .den-some) (h d m a) (near d m a)
+
+abbrev atBoth : (Offsets → ℤ) → ℤ
+atBoth f = f (ourOffsets builtIn (sinceJ2000 (+ 46796) 0)) -ℤ f (ourOffsets builtIn (sinceJ2000 (+ 54832) 0))
+
+both-apart : T (ltb (4 * distance) (natAbs (atBoth (λ o. o .x)))) × T (ltb (4 * distance) (natAbs (atBoth (λ o. o .y))))
+unfolding offsetsAt builtIn place started rowDate span factor mixed amplitude offset momentOf ourAngle ourSine ourCosine wholeTurn quarterTurn sineQuarter nested
+both-apart = (tt, tt)
+
+-- PROMISE. No one number, zero among them, is within 2 nanoarcseconds of X at every accepted instant.
+pub no-constant-x : (c : ℤ) → ((d : ℤ) (m : ℕ) → IsAccepted d m → Within c (exactX builtIn (sinceJ2000 d m)) (exactDen builtIn (sinceJ2000 d m))) → ⊥
+no-constant-x = no-constant (λ n. ourOffsets builtIn n .x) (exactX builtIn) (λ d m a. near-here builtIn builtIn-accepted d m a .x-near) (both-apart .0)
+
+-- PROMISE. And none of Y.
+pub no-constant-y : (c : ℤ) → ((d : ℤ) (m : ℕ) → IsAccepted d m → Within c (exactY builtIn (sinceJ2000 d m)) (exactDen builtIn (sinceJ2000 d m))) → ⊥
+no-constant-y = no-constant (λ n. ourOffsets builtIn n .y) (exactY builtIn) (λ d m a. near-here builtIn builtIn-accepted d m a .y-near) (both-apart .1)

@@ -1,0 +1,36 @@
+-- `nutation::amplitudes_at` meets its contract: by the two kinds of place. Assumes nothing.
+use mathlib.Core.Path.{sym, _∙_, ap, subst}
+use Rattle.nutation.specs.declared.Place.{Place}
+use Rattle.nutation.specs.Inner.{since, Placed, amplitudes}
+use borrow.Author.Needs.{needs}
+use Rattle.nutation.proofs.amplitudes_at.Statement.{statement}
+use Rattle.nutation.proofs.amplitudes_at.Tie as tie
+
+enum-known-p : tie.Need-enum-known-p
+enum-known-p c = search needs
+
+amplitudes-end-requires : tie.Need-amplitudes-end-requires
+amplitudes-end-requires c κs = subst (λ (p : Place). Placed p (c .before .before .before .args .x)) (c .before .p .given .1) (c .before .before .before .pre)
+
+enum-known-p-2 : tie.Need-enum-known-p-2
+enum-known-p-2 c = search needs
+
+amplitudes-between-requires : tie.Need-amplitudes-between-requires
+amplitudes-between-requires c κs = subst (λ (p : Place). Placed p (c .before .before .before .args .x)) (c .before .p2 .given .1) (c .before .before .before .pre)
+
+returns : tie.Need-returns
+returns c = let x = c .before .before .before .before .args .x in c .amplitudes-end .ensures (since x) ∙ sym (ap (λ (p : Place). amplitudes p (since x)) (c .before .before .p .given .1))
+
+returns-2 : tie.Need-returns-2
+returns-2 c = let x = c .before .before .before .before .args .x in c .amplitudes-between .ensures ∙ sym (ap (λ (p : Place). amplitudes p (since x)) (c .before .before .p2 .given .1))
+
+pub amplitudes-at-spec : {M : Type 1} → statement M
+amplitudes-at-spec =
+    tie.close
+    (tie.spec
+    enum-known-p
+    amplitudes-end-requires
+    enum-known-p-2
+    amplitudes-between-requires
+    returns
+    returns-2)

@@ -1,0 +1,25 @@
+-- The words of the promises on the offsets (proofs/Promises.antt).
+-- Assumes nothing.
+use mathlib.Core.Path.{_≡_}
+use mathlib.Core.List.{List}
+use Prim.Native.Nat.{ℕ, _*_, _<_}
+use lib.IntN.{ℤ, pos, _*ℤ_}
+use Rattle.algebra.specs.Near.{Near}
+use Rattle.nutation.specs.declared.Row.{Row}
+use Rattle.nutation.specs.declared.Offsets.{Offsets}
+use Rattle.nutation.specs.Exact.{exactX, exactY, exactDen, exactUncertainty}
+
+-- in nanoarcseconds
+abbrev pub distance : ℕ
+distance = 2
+
+-- the whole number z is at most `distance` from the fraction num / den
+abbrev pub Within : ℤ → ℤ → ℕ → Type 0
+Within z num den = Near (z *ℤ pos den) num (distance * den)
+
+-- both offsets are near the exact ones at n, over a denominator that is not 0, and the uncertainty is the exact one
+pub record OffsetsNear (rows : List Row) (n : ℤ) (o : Offsets) : Type 0 where
+  pub den-some : 0 < exactDen rows n
+  pub x-near : Within (o .x) (exactX rows n) (exactDen rows n)
+  pub y-near : Within (o .y) (exactY rows n) (exactDen rows n)
+  pub uncertainty-is : o .uncertainty ≡ exactUncertainty rows n

@@ -1,0 +1,6 @@
+-- The offsets of the free core nutation. Read Table, Exact, Ours and Claims; Inner serves the code's own contracts.
+pub mod Table
+pub mod Exact
+pub mod Ours
+pub mod Claims
+pub mod Inner

@@ -1,0 +1,15 @@
+-- Demand 3 holds. Assumes nothing.
+use Rattle.zonal.proofs.Promises.{accepted-answered}
+use Rattle.zonal.proofs.Worked.{case-accepted, no-constant}
+use Rattle.nutation.proofs.Promises.{nutation-near, no-constant-x, no-constant-y}
+use Rattle.promises.specs.Distance.{Distance}
+
+-- PROMISE. Demand 3: distance.
+pub distance : Distance
+distance = record {
+  some-instant = case-accepted;
+  corrections-near = accepted-answered;
+  corrections-vary = no-constant;
+  offsets-near = nutation-near;
+  offsets-vary = λ c. (no-constant-x c, no-constant-y c);
+}
