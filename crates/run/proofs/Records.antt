@@ -15,7 +15,7 @@ use Rattle.calendar.specs.declared.Acceptance.the-variants.{Accepted, NotAccept
 use Rattle.calendar.specs.Instants.{acceptance, IsAccepted}
 use Rattle.calendar.proofs.Cases.{no-case}
 use Rattle.clock.specs.Words.{splitOf}
-use Rattle.record.specs.Format.{recordLength, recordBytes}
+use Rattle.record.specs.Format.{recordLength}
 use Rattle.record.specs.Records.{written}
 use Rattle.record.proofs.Written.{written-is, record-length}
 use Rattle.zonal.specs.declared.Corrections.{Corrections}
@@ -26,7 +26,7 @@ use Rattle.run.specs.Inner.{writtenAt}
 use Rattle.run.proofs.Refusals.{not-refused}
 
 -- the record of an accepted instant, written at the front of a buffer with room for it
-pub written-accepted : (d : ℤ) (m : ℕ) (old : List ℕ) → IsAccepted d m → recordLength ≤ length old → writtenAt d m old ≡ recordAt d m ++ drop recordLength old
+written-accepted : (d : ℤ) (m : ℕ) (old : List ℕ) → IsAccepted d m → recordLength ≤ length old → writtenAt d m old ≡ recordAt d m ++ drop recordLength old
 unfolding writtenAt recordAt
 written-accepted d m old a h = written-is d m _ _ _ old a h
 
@@ -113,7 +113,7 @@ module _ {d : ℤ} {m count step : ℕ} {old s : List ℕ} {k at : ℕ} (f : Fil
   behind = rw (f .bytes) (drop-at (runBytes d m step k) _ at long)
 
   -- the part of the buffer that is lent for the next record is all from there on
-  pub lent : take (length s - at) (drop at s) ≡ drop at old
+  lent : take (length s - at) (drop at s) ≡ drop at old
   lent = take-all (length s - at) (drop at s) (omega (arith, length-drop at s)) ∙ behind
 
   unlent : drop (length s - at) (drop at s) ≡ []

@@ -1,11 +1,18 @@
-// Two limits, on each side: the count of a run, and the seconds of a time of day. Each line ends with the refusal number, 0 for none.
+// Limits on each side: the count of a run and the seconds of a time of day; and lines of every kind that the program can be given.
 use calendar::InstantAnswer;
 use libc::STDOUT_FILENO;
+use run_line::Outcome;
 
+fn end() {
+    io::write_all(STDOUT_FILENO, b"\n");
+}
+
+// A text, and a refusal number or 0.
 fn show(text: &[u8], number: u32) {
     io::write_all(STDOUT_FILENO, text);
+    io::write_all(STDOUT_FILENO, b": ");
     io::print_decimal(STDOUT_FILENO, number as u64);
-    io::write_all(STDOUT_FILENO, b"\n");
+    end();
 }
 
 // A run of quarter hours, into room for ninety-seven records.
@@ -21,9 +28,110 @@ fn time_refusal(second: u64, microsecond: u64) -> u32 {
     }
 }
 
+// An input, and behind it the answer.
+fn answer(input: &[u8]) {
+    let mut buffer = [0u8; 2880];
+    io::write_all(STDOUT_FILENO, input);
+    io::write_all(STDOUT_FILENO, b"  ");
+    match run_line::answer(input, &mut buffer) {
+        Outcome::Run(size) => {
+            io::print_decimal(STDOUT_FILENO, size as u64);
+            io::write_all(STDOUT_FILENO, b" bytes");
+        }
+        Outcome::Refused(number) => {
+            io::write_all(STDOUT_FILENO, b"refused ");
+            io::print_decimal(STDOUT_FILENO, number as u64);
+        }
+        Outcome::Bad => {
+            io::write_all(STDOUT_FILENO, b"bad line");
+        }
+    }
+    end();
+}
+
+fn runs() {
+    // a day of quarter hours
+    answer(b"2007 12 31 96 900\n");
+    // ten digits each
+    answer(b"0000002007 0000000012 0000000031 0000000096 0000000900\n");
+    // one record on the last day
+    answer(b"2100 12 31 1 86400\n");
+    // more behind the newline
+    answer(b"2000 2 29 2 1\nx");
+}
+
+fn dates() {
+    // year 1899
+    answer(b"1899 12 31 1 1\n");
+    // year 2101
+    answer(b"2101 1 1 97 0\n");
+    // month 0
+    answer(b"2000 0 1 1 1\n");
+    // month 13
+    answer(b"2000 13 32 1 1\n");
+    // day 0
+    answer(b"2000 2 0 1 1\n");
+    // 1900-02-29
+    answer(b"1900 2 29 1 1\n");
+    // 2100-02-29
+    answer(b"2100 2 29 0 1\n");
+}
+
+fn counts_and_steps() {
+    // count 0, step 0
+    answer(b"2000 2 29 0 0\n");
+    // count 97
+    answer(b"2007 12 31 97 900\n");
+    // step 0
+    answer(b"2000 2 29 1 0\n");
+    // step 86401
+    answer(b"2000 2 29 1 86401\n");
+    // step 9999999999
+    answer(b"2100 12 31 2 9999999999\n");
+    // past the last day
+    answer(b"2100 12 31 2 86400\n");
+}
+
+fn bad_numbers() {
+    // an empty line
+    answer(b"\n");
+    // no newline
+    answer(b"2000 2 29 1 1");
+    // four numbers
+    answer(b"2000 2 29 1\n");
+    // six numbers
+    answer(b"2000 2 29 1 1 1\n");
+    // eleven digits
+    answer(b"2000 2 29 1 00000000001\n");
+}
+
+fn bad_bytes() {
+    // two spaces
+    answer(b"2000  2 29 1 1\n");
+    // a space before
+    answer(b" 2000 2 29 1 1\n");
+    // a space behind
+    answer(b"2000 2 29 1 1 \n");
+    // a tab
+    answer(b"2000\t2 29 1 1\n");
+    // a carriage return
+    answer(b"2000 2 29 1 1\r\n");
+    // a sign
+    answer(b"+2000 2 29 1 1\n");
+    // a zero byte
+    answer(b"2000 2 29 1 1\0\n");
+    // a second line
+    answer(b"2000 2 29\n1 1\n");
+}
+
 fn main() {
-    show(b"count 96: ", run_refusal(96));
-    show(b"count 97: ", run_refusal(97));
-    show(b"second 59, microsecond 999999: ", time_refusal(59, 999999));
-    show(b"second 60, microsecond 0: ", time_refusal(60, 0));
+    show(b"count 96", run_refusal(96));
+    show(b"count 97", run_refusal(97));
+    show(b"second 59, microsecond 999999", time_refusal(59, 999999));
+    show(b"second 60", time_refusal(60, 0));
+    runs();
+    dates();
+    counts_and_steps();
+    bad_numbers();
+    bad_bytes();
 }

@@ -4,7 +4,7 @@ use mathlib.Core.Path.{_≡_, refl, ap, sym, _∙_}
 use mathlib.Core.Bool.{Bool, true, false, cond, _||_}
 use mathlib.Core.List.{List, [], _∷_, _++_}
 use native.Mathlib.Omega.{arith}
-use lib.Dec.{ltb, leb}
+use lib.Dec.{ltb}
 use lib.IntN.{ℤ}
 use lib.ListN.{length, take, drop, getD}
 use lib.Seq.{take-at}
@@ -13,7 +13,6 @@ use borrow.Author.Tests.{le-ltb}
 use Rattle.calendar.specs.declared.DayAnswer.the-variants.{Day, NoDay}
 use Rattle.calendar.specs.Limits.{firstYear, lastYear, lastDay, dayMicros}
 use Rattle.calendar.specs.Refusals.{case, firstRefusal}
-use Rattle.calendar.specs.Instants.{outside}
 use Rattle.calendar.specs.Dates.{date, monthLength, indexOf, numberOf, dayOf}
 use Rattle.calendar.proofs.Inverse.{there-and-back, date-range}
 use Rattle.line.specs.declared.Line.{Line}
@@ -23,10 +22,10 @@ use Rattle.line.specs.Lines.{newline, lineOf}
 use Rattle.line.proofs.Grammar.{first-bytes, no-newline}
 use Rattle.line.proofs.Newline.{after-newline}
 use Rattle.record.specs.Format.{recordLength}
-use Rattle.run.specs.Run.{mostRecords, laterDay, badCount, badStep, runRefusal, runBytes, runWritten}
+use Rattle.run.specs.Run.{mostRecords, laterDay, badCount, badStep, runRefusal, runBytes}
 use Rattle.run.proofs.Refusals.{run-refusal, not-refused, between}
 use Rattle.run.proofs.Records.{run-length, run-written}
-use Rattle.run_line.specs.declared.Outcome.the-variants.{Run, Refused, Bad}
+use Rattle.run_line.specs.declared.Outcome.the-variants.{Run, Bad}
 use Rattle.run_line.specs.Answer.{second, byRefusal, onDay, forLine, outcomeOf, filledForLine, filledOf}
 use Rattle.run_line.proofs.Answers.{IsRun, is-run, parsed}
 

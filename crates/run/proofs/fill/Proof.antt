@@ -1,8 +1,8 @@
 -- `run::fill` meets its contract. The invariant: the first k records stand at the front, and behind them the buffer is as it was. Assumes nothing.
-use Prim.Native.Nat.{ℕ, _+_, _-_, _*_, _≤_}
+use Prim.Native.Nat.{_+_, _-_, _*_, _≤_}
 use native.Mathlib.Omega.{arith}
-use mathlib.Core.Path.{_≡_, refl, _∙_, ap, sym}
-use mathlib.Core.List.{List, _++_}
+use mathlib.Core.Path.{_≡_, refl, _∙_, ap}
+use mathlib.Core.List.{_++_}
 use denote.Ref.{now}
 use lib.IntN.{ℤ}
 use lib.ListN.{length, drop}

@@ -14,8 +14,8 @@ use Rattle.calendar.specs.declared.Instant.{Instant}
 use Rattle.calendar.specs.Limits.{lastDay, dayMicros}
 use Rattle.calendar.specs.Instants.{acceptance, acceptanceRefusal, IsAccepted}
 use Rattle.record.specs.Format.{recordLength}
-use Rattle.run.specs.Run.{mostRecords, laterDay, laterMicros, endsPast, startBy, runRefusal}
-use Rattle.run.specs.Inner.{laterInstant, InRun}
+use Rattle.run.specs.Run.{mostRecords, laterDay, laterMicros, runRefusal}
+use Rattle.run.specs.Inner.{laterInstant}
 use Rattle.run.proofs.Instants.{day-fits}
 use Rattle.run.proofs.Refusals.{none-accepted, later-refusal, Counted, refused-at-start, refused-later, steps-few}
 use borrow.Author.Needs.{needs}

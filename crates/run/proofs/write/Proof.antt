@@ -1,13 +1,13 @@
 -- `run::write` meets its contract. Assumes nothing.
-use Prim.Native.Nat.{ℕ, _*_}
+use Prim.Native.Nat.{_*_}
 use mathlib.Core.Path.{_≡_, _∙_, ap, sym}
-use mathlib.Core.List.{List, _++_}
+use mathlib.Core.List.{_++_}
 use denote.Ref.{now}
 use lib.IntN.{ℤ}
 use lib.ListN.{length, drop}
 use mir.Facts.{toZ-ofZ}
 use Rattle.record.specs.Format.{recordLength}
-use Rattle.run.specs.Run.{runRefusal, runBytes, runWritten}
+use Rattle.run.specs.Run.{runRefusal, runBytes}
 use Rattle.run.proofs.Records.{refused-unchanged, run-written}
 use borrow.Author.Needs.{needs}
 use Rattle.run.proofs.write.Statement.{statement}

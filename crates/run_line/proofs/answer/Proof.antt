@@ -1,7 +1,5 @@
 -- `run_line::answer` meets its contract. Assumes nothing.
-use Prim.Native.Nat.{ℕ}
 use mathlib.Core.Path.{_≡_, _∙_, ap, sym}
-use mathlib.Core.List.{List}
 use denote.Ref.{now}
 use lib.IntN.{ℤ}
 use lib.ListN.{length}
@@ -9,7 +7,6 @@ use mir.Syntax.{w64}
 use mir.Val.{toZ, ofZ}
 use mir.Facts.{toZ-ofZ}
 use Rattle.calendar.specs.declared.DayAnswer.the-variants.{Day}
-use Rattle.calendar.specs.Dates.{dayOf}
 use Rattle.line.specs.declared.Line.{Line}
 use Rattle.line.specs.declared.LineAnswer.the-variants.{Parsed}
 use Rattle.line.specs.Lines.{lineOf}

@@ -1,7 +1,7 @@
 -- `run_line::serve` meets its contract. Assumes nothing.
 use Prim.Native.Nat.{_≤_}
 use native.Mathlib.Omega.{arith}
-use mathlib.Core.Path.{_≡_, _∙_, sym}
+use mathlib.Core.Path.{_∙_, sym}
 use lib.ListN.{length}
 use lib.Seq.{length-take-le}
 use Rattle.run_line.proofs.Answers.{run-within}
