@@ -97,7 +97,7 @@ pub record NotRefused (d : ℤ) (m count step n : ℕ) : Type 0 where
   pub room : recordLength * count ≤ n
 
 -- neither end of a range is passed
-between : (x low high : ℕ) → ltb x low || ltb high x ≡ false → (low ≤ x) × (x ≤ high)
+pub between : (x low high : ℕ) → ltb x low || ltb high x ≡ false → (low ≤ x) × (x ≤ high)
 between x low high e = by (ltb x low) (ltb high x) refl refl e
   where
     by : (a b : Bool) → ltb x low ≡ a → ltb high x ≡ b → a || b ≡ false → (low ≤ x) × (x ≤ high)

@@ -1,0 +1,93 @@
+-- `run_line::answer` meets its contract. Assumes nothing.
+use Prim.Native.Nat.{ℕ}
+use mathlib.Core.Path.{_≡_, _∙_, ap, sym}
+use mathlib.Core.List.{List}
+use denote.Ref.{now}
+use lib.IntN.{ℤ}
+use lib.ListN.{length}
+use mir.Syntax.{w64}
+use mir.Val.{toZ, ofZ}
+use mir.Facts.{toZ-ofZ}
+use Rattle.calendar.specs.declared.DayAnswer.the-variants.{Day}
+use Rattle.calendar.specs.Dates.{dayOf}
+use Rattle.line.specs.declared.Line.{Line}
+use Rattle.line.specs.declared.LineAnswer.the-variants.{Parsed}
+use Rattle.line.specs.Lines.{lineOf}
+use Rattle.run_line.specs.Answer.{onDay, filledOnDay}
+use Rattle.run_line.proofs.Small.{step-small}
+use Rattle.run_line.proofs.Answers.{bad, parsed}
+use borrow.Author.Needs.{needs}
+use Rattle.run_line.proofs.answer.Statement.{statement}
+use Rattle.run_line.proofs.answer.Tie as tie
+
+module _ (c : tie.After-day-of) where
+  abbrev s : tie.Start
+  s = c .before .before .before .before .before .before .before
+
+  abbrev l : Line
+  l = c .before .before .l .given .0 .0
+
+  is-line : lineOf (now (s .args .s)) ≡ Parsed l
+  is-line = sym (c .before .before .before .before .parse .ensures) ∙ c .before .before .l .given .1
+
+parse-requires : tie.Need-parse-requires
+parse-requires c κs = search needs
+
+enum-told : tie.Need-enum-told
+enum-told c = search needs
+
+enum-known-l : tie.Need-enum-known-l
+enum-known-l c = search needs
+
+day-of-requires : tie.Need-day-of-requires
+day-of-requires c κs = search needs
+
+enum-known-n : tie.Need-enum-known-n
+enum-known-n c = search needs
+
+enum-known-d : tie.Need-enum-known-d
+enum-known-d c = search needs
+
+day-run-requires : tie.Need-day-run-requires
+day-run-requires c κs = let a = c .before .before .before .before in step-small (now (s a .args .s)) (l a) (is-line a)
+
+returns : tie.Need-returns
+returns c =
+    let b = c .before .before .before .before .before in
+    bad (now (b .args .s)) (length (now (b .args .buffer))) (now (b .args .buffer)) (sym (c .before .before .parse .ensures) ∙ c .enum-told .given .1)
+
+returns-2 : tie.Need-returns-2
+returns-2 c =
+    let a = c .before .before .before in
+    parsed (now (s a .args .s)) (length (now (s a .args .buffer))) (now (s a .args .buffer)) (l a) _ (is-line a) (sym (a .day-of .ensures) ∙ c .before .n .given .1)
+
+same-length : tie.Need-same-length
+same-length c = search needs
+
+returns-3 : tie.Need-returns-3
+returns-3 c =
+    let w = c .before .before in
+    let k = w .before .before .before in
+    let a = k .before .before in
+    let d = k .d .given .0 .0 in
+    let e : toZ w64 (ofZ w64 d) ≡ d = toZ-ofZ (search needs) in
+    let p = parsed (now (s a .args .s)) (length (now (s a .args .buffer))) (now (s a .args .buffer)) (l a) (Day d) (is-line a) (sym (a .day-of .ensures) ∙ k .d .given .1) in (
+      w .day-run .ensures .0 ∙ (ap (λ (z : ℤ). onDay (Day z) (l a .count) (l a .step) (length (now (s a .args .buffer)))) e ∙ p .0),
+      w .day-run .ensures .1 ∙ (ap (λ (z : ℤ). filledOnDay (Day z) (l a .count) (l a .step) (now (s a .args .buffer))) e ∙ p .1),
+    )
+
+pub answer-spec : {M : Type 1} → statement M
+answer-spec =
+    tie.close
+    (tie.spec
+    parse-requires
+    enum-told
+    enum-known-l
+    day-of-requires
+    enum-known-n
+    enum-known-d
+    day-run-requires
+    returns
+    returns-2
+    same-length
+    returns-3)

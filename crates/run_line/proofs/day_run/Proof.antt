@@ -1,0 +1,59 @@
+-- `run_line::day_run` meets its contract. Assumes nothing.
+use Prim.Native.Nat.{ℕ, _*_, _≤_}
+use native.Mathlib.Omega.{arith}
+use mathlib.Core.Path.{_≡_, _∙_, ap, sym}
+use mathlib.Core.List.{List}
+use denote.Ref.{now}
+use lib.IntN.{ℤ}
+use lib.ListN.{length}
+use mir.Facts.{toZ-ofZ}
+use Rattle.run.specs.Run.{runRefusal, runWritten}
+use Rattle.run.proofs.Refusals.{not-refused}
+use Rattle.run_line.specs.declared.Outcome.the-variants.{Refused}
+use Rattle.run_line.specs.Answer.{second}
+use Rattle.run_line.proofs.Answers.{by-refused, by-run}
+use borrow.Author.Needs.{needs}
+use Rattle.run_line.proofs.day_run.Statement.{statement}
+use Rattle.run_line.proofs.day_run.Tie as tie
+
+module _ (c : tie.After-write) where
+  abbrev s : tie.Start
+  s = c .before .before .before
+
+  says : c .write .result ≡ runRefusal (s .args .day) 0 (s .args .count) (s .args .step * second) (length (now (s .args .buffer)))
+  says = c .write .ensures .0 ∙ ap (λ (d : ℤ). runRefusal d 0 (s .args .count) (s .args .step * second) (length (now (s .args .buffer)))) (toZ-ofZ (s .fits .day))
+
+  fills : c .write .last .1 .1 .1 .1 .0 ≡ runWritten (s .args .day) 0 (s .args .count) (s .args .step * second) (now (s .args .buffer))
+  fills = c .write .ensures .1 ∙ ap (λ (d : ℤ). runWritten d 0 (s .args .count) (s .args .step * second) (now (s .args .buffer))) (toZ-ofZ (s .fits .day))
+
+mul-write : tie.Need-mul-write
+mul-write c = search needs
+
+write-requires : tie.Need-write-requires
+write-requires c κs = search needs
+
+same-length : tie.Need-same-length
+same-length c = search needs
+
+returns : tie.Need-returns
+returns c =
+    let w = c .before .before .before in
+    (ap Refused (says w) ∙ by-refused _ (s w .args .count) (λ e. c .if1 .taken (says w ∙ e)), fills w)
+
+mul-t11 : tie.Need-mul-t11
+mul-t11 c =
+    let w = c .before .before .before in
+    omega (arith, not-refused (s w .args .day) _ _ _ _ (sym (says w) ∙ c .if1 .left) .counted .few)
+
+same-length-2 : tie.Need-same-length-2
+same-length-2 c = search needs
+
+returns-2 : tie.Need-returns-2
+returns-2 c =
+    let w = c .before .before .before in
+    (by-run _ (s w .args .count) (sym (says w) ∙ c .if1 .left), fills w)
+
+pub day-run-spec : {M : Type 1} → statement M
+day-run-spec =
+    tie.close
+    (tie.spec mul-write write-requires same-length returns mul-t11 same-length-2 returns-2)

@@ -1,0 +1,2 @@
+-- The program's answer. Read Answer.
+pub mod Answer
