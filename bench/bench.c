@@ -7,11 +7,10 @@
 #include "../tests/model.h"
 
 #include <stdio.h>
-#include <string.h>
 #include <time.h>
 
 #define INPUTS 1024
-#define ROUNDS 25
+#define ROUNDS 1000
 #define STEP 900000000
 
 static struct instant at[INPUTS];
@@ -153,28 +152,30 @@ static double now(void)
     return (double)t.tv_sec * 1e9 + (double)t.tv_nsec;
 }
 
-/* Nanoseconds of one piece of work: as much of it as fills ten milliseconds, divided. */
-static double time_of(work *w)
+/* Nanoseconds of one piece of work, of `batch` pieces timed together. */
+static double time_of(work *w, int batch)
 {
-    double start = now(), end, sum = 0.0;
-    int i = 0, done = 0;
+    static int i;
+    double sum = 0.0, start = now(), end;
 
-    do {
-        for (int n = 0; n < 64; n++, done++, i = (i + 1) % INPUTS)
-            sum += w(i);
-        end = now();
-    } while (end - start < 1e7);
+    for (int n = 0; n < batch; n++, i = (i + 1) % INPUTS)
+        sum += w(i);
+    end = now();
     sink = sum;
-    return (end - start) / done;
+    return (end - start) / batch;
 }
 
-/* The best of some rounds, the two taking turns, so that both meet the same conditions. */
+/*
+ * The best of many short rounds, the two taking turns, so that both meet the same conditions and
+ * what else the machine does matters little.
+ */
 static void row(const char *what, work *ours, work *plain)
 {
     double a = 1e300, b = 1e300;
+    int batch = 1 + (int)(300000.0 / (time_of(ours, 16) + time_of(plain, 16)));
 
     for (int i = 0; i < ROUNDS; i++) {
-        double x = time_of(ours), y = time_of(plain);
+        double x = time_of(ours, batch), y = time_of(plain, batch);
 
         a = x < a ? x : a;
         b = y < b ? y : b;

@@ -131,10 +131,29 @@ static void by_hand(void)
     }
 }
 
+/* Buffers that end where unmapped memory begins: long enough, and a byte too short. */
+static void at_the_edge(void)
+{
+    for (uint64_t count = 1; count <= RUN_RECORDS; count++) {
+        struct instant start = {between(FIRST_DAY, LAST_DAY - 100), below(DAY_MICROS)};
+        size_t length = RECORD_BYTES * (size_t)count;
+        uint64_t step = 1 + below(DAY_MICROS);
+        uint8_t *buffer = lent(length);
+
+        run(start, count, step, length);
+        SAME_U(enfys_run_write(start.day, start.micros, count, step, buffer, length), 0, RUN, OF_RUN);
+        if (memcmp(buffer, space + BEFORE, length) != 0)
+            differs("enfys_run_write", "other bytes", "those of the same run elsewhere", RUN, OF_RUN);
+        SAME_U(enfys_run_write(start.day, start.micros, count, step, buffer + 1, length - 1), 12, RUN, OF_RUN);
+        lent_free(buffer, length);
+    }
+}
+
 int main(int argc, char **argv)
 {
     begin("run", argc, argv);
     by_hand();
+    at_the_edge();
     SAME_U(enfys_run_write(54465, 0, 1, 1, NULL, 0), 12, "no buffer");
     orders();
     last_instants();

@@ -35,6 +35,8 @@ use Rattle.record.specs.declared.ReadAnswer.{ReadAnswer}
 use Rattle.record.specs.declared.ReadAnswer.the-variants.{IsRecord, NoRecord}
 use Rattle.record.proofs.Refusals.{write-refusal, read-refusal}
 use Rattle.record.proofs.Kept.{write-keeps}
+use Rattle.run.proofs.Refusals.{run-refusal}
+use Rattle.run.proofs.Records.{refused-unchanged}
 use Rattle.promises.specs.AnyInput.{ZeroBeside, AnyInputIsAnswered}
 
 -- beside a success nothing is claimed
@@ -107,4 +109,6 @@ any-input-is-answered = record {
   record-write-keeps = λ d m ut1 lod rate old. write-keeps d m ut1 lod rate old .all;
   record-read = read-refusal;
   record-read-zero = read-zero;
+  run-write = run-refusal;
+  run-write-keeps = refused-unchanged;
 }

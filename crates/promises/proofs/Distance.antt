@@ -1,6 +1,7 @@
 -- Demand 3 holds. Assumes nothing.
 use Rattle.zonal.proofs.Promises.{accepted-answered}
 use Rattle.zonal.proofs.Worked.{case-accepted, no-constant}
+use Rattle.run.proofs.ReadBack.{run-reads, some-not-refused}
 use Rattle.nutation.proofs.Promises.{nutation-near, no-constant-x, no-constant-y}
 use Rattle.promises.specs.Distance.{Distance}
 
@@ -10,6 +11,8 @@ distance = record {
   some-instant = case-accepted;
   corrections-near = accepted-answered;
   corrections-vary = no-constant;
+  run-near = run-reads;
+  some-run = some-not-refused;
   offsets-near = nutation-near;
   offsets-vary = λ c. (no-constant-x c, no-constant-y c);
 }

@@ -7,6 +7,8 @@ use Rattle.record.proofs.Round.{read-written}
 use Rattle.record.proofs.Again.{written-again}
 use Rattle.record.proofs.Kept.{write-keeps, read-front}
 use Rattle.record.proofs.Changed.{changed-byte}
+use Rattle.run.proofs.Records.{run-keeps}
+use Rattle.run.proofs.ReadBack.{later-by, record-place}
 use Rattle.promises.specs.Exactness.{Exactness}
 
 -- PROMISE. Demand 2: exactness.
@@ -27,4 +29,7 @@ exactness = record {
   record-reads-front = read-front;
   record-keeps-behind = λ d m ut1 lod rate old. (write-keeps d m ut1 lod rate old .size, write-keeps d m ut1 lod rate old .behind);
   record-changed = changed-byte;
+  run-record-place = record-place;
+  run-later = later-by;
+  run-keeps-behind = λ d m count step old. (run-keeps d m count step old .size, run-keeps d m count step old .behind);
 }

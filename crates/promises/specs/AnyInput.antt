@@ -1,14 +1,15 @@
 -- Demand 1: any input is answered. Each service is refused by the first number of its list that applies, and by nothing else; beside a refusal
 -- every other number is 0, and no lent byte changes. That each exported call gives these numbers for every input is its contract
 -- (crates/enfysgar/src).
-use Prim.Native.Nat.{ℕ, _/_, _%_}
+use Prim.Native.Nat.{ℕ, _-_, _*_, _/_, _%_}
 use mathlib.Core.Path.{_≡_}
 use mathlib.Core.Bool.{not, _||_}
 use mathlib.Core.List.{List, [], _∷_}
 use lib.Dec.{ltb, leb, eqb}
 use lib.IntN.{ℤ, pos}
 use lib.ListN.{length}
-use Rattle.calendar.specs.Limits.{firstYear, lastYear, dayMicros}
+use lib.Signed.{ltZ}
+use Rattle.calendar.specs.Limits.{firstYear, lastYear, lastDay, dayMicros}
 use Rattle.calendar.specs.Refusals.{case, firstRefusal}
 use Rattle.calendar.specs.Instants.{outside}
 use Rattle.calendar.specs.Dates.{monthLength, dayOf, dateOf, dayNumberOf, dayRefusalOf, yearOf, monthOf, dayOfMonthOf, dateRefusalOf}
@@ -31,6 +32,7 @@ use Rattle.bigendian.specs.Numbers.{numberAt, wordSum}
 use Rattle.record.specs.Format.{recordLength, version}
 use Rattle.record.specs.Records.{writeRefusal, written, readOf, recordDayOf, recordMicrosOf, recordUt1Of, recordLodOf, recordRateOf, readRefusalOf}
 use Rattle.record.specs.declared.ReadAnswer.{ReadAnswer}
+use Rattle.run.specs.Run.{mostRecords, laterDay, runRefusal, runWritten}
 
 -- beside a refusal of the answer a, its number `value` is `zero`
 abbrev pub ZeroBeside : {A B : Type 0} → (A → ℕ) → (A → B) → B → A → Type 0
@@ -88,3 +90,14 @@ pub record AnyInputIsAnswered : Type 0 where
       × ZeroBeside readRefusalOf recordUt1Of (pos 0) a
       × ZeroBeside readRefusalOf recordLodOf (pos 0) a
       × ZeroBeside readRefusalOf recordRateOf (pos 0) a
+  -- (g), a run
+  pub run-write : (d : ℤ) (m count step n : ℕ) → runRefusal d m count step n
+      ≡ firstRefusal
+      (case 17 (ltb count 1 || ltb mostRecords count)
+      ∷ case 18 (ltb step 1 || ltb dayMicros step)
+      ∷ case 8 (outside d)
+      ∷ case 9 (leb dayMicros m)
+      ∷ case 8 (ltZ lastDay (laterDay d m ((count - 1) * step)))
+      ∷ case 12 (ltb n (recordLength * count))
+      ∷ [])
+  pub run-write-keeps : (d : ℤ) (m count step : ℕ) (old : List ℕ) → (runRefusal d m count step (length old) ≡ 0 → ⊥) → runWritten d m count step old ≡ old

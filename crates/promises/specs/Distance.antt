@@ -1,12 +1,17 @@
 -- Demand 3: distance. At every accepted instant the corrections are within 20 nanoseconds, 200 picoseconds and 20 * 10^-20 radian per second of the
--- exact sums over all 62 rows, and both offsets within 2 nanoarcseconds of the exact ones. A distance is over a denominator that is above 0.
-use Prim.Native.Nat.{ℕ}
+-- exact sums over all 62 rows, in service (e) and in a run, and both offsets within 2 nanoarcseconds of the exact ones. A distance is over a denominator that is above 0.
+use Prim.Native.Nat.{ℕ, _*_, _≤_, _<_}
 use mathlib.Core.Path.{_≡_}
+use mathlib.Core.List.{List}
 use lib.IntN.{ℤ, pos}
+use lib.ListN.{length, take, drop}
 use Rattle.calendar.specs.Instants.{IsAccepted}
 use Rattle.arguments.specs.Exact.{sinceJ2000}
 use Rattle.zonal.specs.Within.{promised, Within, Answered}
 use Rattle.zonal.specs.declared.Corrections.{Corrections}
+use Rattle.record.specs.Format.{recordLength}
+use Rattle.run.specs.Run.{laterDay, laterMicros, runRefusal, runWritten}
+use Rattle.run.specs.ReadBack.{ReadsAt}
 use Rattle.nutation.specs.Table.{builtIn}
 use Rattle.nutation.specs.Ours.{nutationOf}
 use Rattle.nutation.specs.Exact.{exactX, exactY, exactDen}
@@ -23,6 +28,11 @@ pub record Distance : Type 0 where
   -- no constant answer, zeros among them, would do: the numbers of two days a day apart differ
   pub corrections-vary : (c c′ : Corrections) → Within promised (sinceJ2000 (pos 54465) 0) c → Within promised (sinceJ2000 (pos 54466) 0) c′
       → (c .ut1 ≡ c′ .ut1 → ⊥) × (c .lod ≡ c′ .lod → ⊥) × (c .rate ≡ c′ .rate → ⊥)
+  -- the run: record k of a run that is not refused reads back as the instant k steps after the start, with numbers within the same distances there
+  pub run-near : (d : ℤ) (m count step : ℕ) (old : List ℕ) → runRefusal d m count step (length old) ≡ 0 → (k : ℕ) → k < count
+      → ReadsAt (laterDay d m (k * step)) (laterMicros m (k * step)) (take recordLength (drop (recordLength * k) (runWritten d m count step old)))
+  -- a run that is not refused exists: ninety-six records a quarter of an hour apart, and a day apart, from day 54465 on
+  pub some-run : (n : ℕ) → recordLength * 96 ≤ n → (runRefusal (pos 54465) 0 96 900_000_000 n ≡ 0) × (runRefusal (pos 54465) 0 96 86_400_000_000 n ≡ 0)
   -- (f) every accepted instant is answered by two offsets within 2 nanoarcseconds of the exact ones, and the exact uncertainty
   pub offsets-near : (d : ℤ) (m : ℕ) → IsAccepted d m → (o : Offsets) × (nutationOf d m ≡ Given o) × OffsetsNear builtIn (sinceJ2000 d m) o
   -- no constant offset would do

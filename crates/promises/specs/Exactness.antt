@@ -1,5 +1,5 @@
 -- Demand 2: exactness. Dates each way; frequency and phase; records read back; clock words joined exactly when they are of one day.
-use Prim.Native.Nat.{ℕ, _≤_, _<_}
+use Prim.Native.Nat.{ℕ, _*_, _≤_, _<_}
 use mathlib.Core.Path.{_≡_}
 use mathlib.Core.Bool.{false}
 use mathlib.Core.List.{List, _++_}
@@ -7,6 +7,7 @@ use lib.IntN.{ℤ, pos, _+ℤ_, _-ℤ_, natAbs}
 use lib.ListN.{length, take, drop, getD, set}
 use mir.Syntax.{w32}
 use mir.Val.{SFits}
+use Rattle.calendar.specs.Limits.{dayMicros}
 use Rattle.calendar.specs.Instants.{instant, outside, indexAt, IsAccepted}
 use Rattle.calendar.specs.Dates.{date, next, dateAfter, dayOf, dateOf}
 use Rattle.calendar.specs.Times.{instantOf}
@@ -28,6 +29,8 @@ use Rattle.record.specs.Format.{recordLength}
 use Rattle.record.specs.Records.{writeRefusal, written, readOf}
 use Rattle.record.specs.declared.Record.{Record}
 use Rattle.record.specs.declared.ReadAnswer.the-variants.{IsRecord}
+use Rattle.arguments.specs.Exact.{sinceJ2000}
+use Rattle.run.specs.Run.{laterDay, laterMicros, runRefusal, recordAt, runWritten}
 
 -- a record's five fields
 abbrev pub fields : (d : ℤ) (m : ℕ) (ut1 lod rate : ℤ) → Record
@@ -66,3 +69,9 @@ pub record Exactness : Type 0 where
   -- a record of which one byte was changed does not read
   pub record-changed : (s : List ℕ) (r : Record) (i b : ℕ) → Bytes s → readOf s ≡ IsRecord r → i < recordLength → b < 256 → (getD s i 0 ≡ b → ⊥)
       → (q : Record) → readOf (set s i b) ≡ IsRecord q → ⊥
+  -- a run that is not refused: record k fills bytes 30 k to 30 k + 29, and its instant is k steps after the start; no byte behind its records changes
+  pub run-record-place : (d : ℤ) (m count step : ℕ) (old : List ℕ) → runRefusal d m count step (length old) ≡ 0 → (k : ℕ) → k < count
+      → take recordLength (drop (recordLength * k) (runWritten d m count step old)) ≡ recordAt (laterDay d m (k * step)) (laterMicros m (k * step))
+  pub run-later : (d : ℤ) (m t : ℕ) → (sinceJ2000 (laterDay d m t) (laterMicros m t) ≡ sinceJ2000 d m +ℤ pos t) × (laterMicros m t < dayMicros)
+  pub run-keeps-behind : (d : ℤ) (m count step : ℕ) (old : List ℕ)
+      → (length (runWritten d m count step old) ≡ length old) × (drop (recordLength * count) (runWritten d m count step old) ≡ drop (recordLength * count) old)
