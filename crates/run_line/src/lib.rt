@@ -1,10 +1,8 @@
-// The program: its line is read, answered, and the answer written.
+// The program's answer to a line of input.
 use calendar::DayAnswer;
-use libc::STDIN_FILENO;
-use libc::STDOUT_FILENO;
 use line::LineAnswer;
 ghost use mathlib.Core.Path.{_≡_};
-ghost use Prim.Native.Nat.{_^_, _*_, _<_, _≤_};
+ghost use Prim.Native.Nat.{_^_, _*_, _<_};
 ghost use lib.ListN.{length};
 ghost use Rattle.calendar.specs.declared.DayAnswer.the-variants.{Day};
 ghost use Rattle.run_line.specs.Answer.{onDay, filledOnDay, outcomeOf, filledOf};
@@ -46,48 +44,5 @@ pub fn answer(s: &[u8], buffer: &mut [u8]) -> Outcome
             DayAnswer::NoDay(n) => Outcome::Refused(n),
             DayAnswer::Day(d) => day_run(d, l.count, l.step, buffer),
         },
-    }
-}
-
-// Reads standard input up to its first newline, or until s is full, a byte at a time, so that nothing behind the newline is waited for.
-// Returns how many bytes it put at the front of s.
-fn read_line(s: &mut [u8]) -> usize
-    ensures { λ r. ⌜ r ≤ length (now (s .exit)) ⌝ }
-{
-    let mut one = [0u8; 1];
-    let mut n = 0;
-    while n < s.len() {
-        let got = libc::read(STDIN_FILENO, &mut one);
-        if got <= 0 {
-            return n;
-        }
-        s[n] = one[0];
-        n += 1;
-        if one[0] == b'\n' {
-            return n;
-        }
-    }
-    n
-}
-
-fn refuse(number: u32) {
-    io::write_all(STDOUT_FILENO, b"refused ");
-    io::print_decimal(STDOUT_FILENO, number as u64);
-    io::write_all(STDOUT_FILENO, b"\n");
-}
-
-// Reads a line from standard input, of which 55 bytes decide, and writes the answer to standard output.
-pub fn serve() {
-    let mut line = [0u8; 55];
-    let n = read_line(&mut line);
-    let mut buffer = [0u8; 2880];
-    match answer(&line[..n], &mut buffer) {
-        Outcome::Run(size) => {
-            io::write_all(STDOUT_FILENO, &buffer[..size]);
-        }
-        Outcome::Refused(number) => refuse(number),
-        Outcome::Bad => {
-            io::write_all(STDOUT_FILENO, b"bad line\n");
-        }
     }
 }

@@ -1,11 +1,11 @@
--- `run_line::read_line` meets its contract. Assumes nothing.
+-- `run_day::read_line` meets its contract. Assumes nothing.
 use native.Mathlib.Omega.{arith}
 use mathlib.Core.Path.{_≡_}
 use lib.ListN.{length, length-set}
 use Prim.Native.Nat.{_-_, _≤_}
 use borrow.Author.Needs.{needs}
-use Rattle.run_line.proofs.read_line.Statement.{statement}
-use Rattle.run_line.proofs.read_line.Tie as tie
+use Rattle.run_day.proofs.read_line.Statement.{statement}
+use Rattle.run_day.proofs.read_line.Tie as tie
 
 abbrev Inv-loop : tie.InvT-loop
 Inv-loop s₀ one₀ n₀ s one n = (length s ≡ length s₀) × (n ≤ length s) × (length one ≡ 1)

@@ -1,13 +1,13 @@
--- `run_line::serve` meets its contract. Assumes nothing.
+-- `run_day::main` meets its contract. Assumes nothing.
 use Prim.Native.Nat.{_≤_}
 use native.Mathlib.Omega.{arith}
 use mathlib.Core.Path.{_∙_, sym}
 use lib.ListN.{length}
 use lib.Seq.{length-take-le}
 use Rattle.run_line.proofs.Answers.{run-within}
 use borrow.Author.Needs.{needs}
-use Rattle.run_line.proofs.serve.Statement.{statement}
-use Rattle.run_line.proofs.serve.Tie as tie
+use Rattle.run_day.proofs.main.Statement.{statement}
+use Rattle.run_day.proofs.main.Tie as tie
 
 -- the bytes of a run are in the buffer as `answer` leaves it
 within : (c : tie.After-size) → c .size .given .0 .0 ≤ length (c .before .before .before .answer .last .1 .0)
@@ -69,8 +69,8 @@ returns-2 c = search needs
 returns-3 : tie.Need-returns-3
 returns-3 c = search needs
 
-pub serve-spec : {M : Type 1} → statement M
-serve-spec =
+pub main-spec : {M : Type 1} → statement M
+main-spec =
     tie.close
     (tie.spec
     slice-aggregate-read-line
