@@ -1,18 +1,15 @@
 -- The instants of a run. Assumes nothing.
-use Prim.Native.Nat.{ℕ, _+_, _*_, _/_, _%_, _^_, _≤_, _<_}
-use mathlib.Core.Path.{_≡_, refl, ap, _∙_}
+use Prim.Native.Nat.{ℕ, _+_, _*_, _/_, _^_, _≤_, _<_}
+use mathlib.Core.Path.{_≡_, refl, _∙_}
 use mathlib.Core.Bool.{Bool, true, false, _||_, true≢false}
 use native.Mathlib.Omega.{arith}
 use lib.Dec.{T}
-use lib.IntN.{ℤ, pos, negℤ, _+ℤ_, _-ℤ_, _*ℤ_, natAbs}
+use lib.IntN.{ℤ, pos, negℤ, _+ℤ_, _-ℤ_, natAbs}
 use lib.Signed.{ltZ, ltZ-yes, ltZ-no, clashℤ}
 use mir.Syntax.{w64}
 use mir.Val.{SFits}
-use Rattle.algebra.specs.Integers.{+_}
-use Rattle.algebra.proofs.Ring.{end, _▸_, ring, quote}
 use Rattle.algebra.proofs.Order.{_≼_, ≼-refl, ≼-trans, ≼-add, le-plus, pos-le, abs-add}
 use Rattle.algebra.proofs.Fits.{small-fits}
-use Rattle.arguments.specs.Exact.{sinceJ2000}
 use Rattle.calendar.specs.Limits.{firstDay, lastDay, dayMicros}
 use Rattle.calendar.specs.Instants.{outside, indexAt, IsAccepted}
 use Rattle.calendar.proofs.Index.{AcceptedAt, accepted-at, accepted}
@@ -44,25 +41,6 @@ pub past-earlier : (d : ℤ) (p q : ℕ) → p ≤ q → ltZ lastDay (d +ℤ pos
 past-earlier d p q h e = not-less lastDay (d +ℤ pos p) (≼-trans (≼-add (≼-refl d) (pos-le h)) (at-least lastDay (d +ℤ pos q) e))
 
 -- ---- later instants
-
--- PROMISE. The instant t microseconds after another is t microseconds later, and its microseconds are those of a day.
-pub later-by : (d : ℤ) (m t : ℕ) → (sinceJ2000 (laterDay d m t) (laterMicros m t) ≡ sinceJ2000 d m +ℤ + t) × (laterMicros m t < dayMicros)
-later-by d m t = (moved d (+ ((m + t) / dayMicros)) (+ 51544) (+ dayMicros) (+ laterMicros m t) (+ 43_200_000_000) (+ m) (+ t) sum, omega arith)
-  where
-    whole : (x : ℕ) → x / dayMicros * dayMicros + x % dayMicros ≡ x
-    whole x = omega arith
-
-    sum : + ((m + t) / dayMicros) *ℤ + dayMicros +ℤ + laterMicros m t ≡ + m +ℤ + t
-    sum = ap pos (whole (m + t))
-
-    left : (d q c n r h : ℤ) → (d +ℤ q -ℤ c) *ℤ n +ℤ r -ℤ h ≡ (d -ℤ c) *ℤ n -ℤ h +ℤ (q *ℤ n +ℤ r)
-    left d q c n r h = ring (d ▸ q ▸ c ▸ n ▸ r ▸ h ▸ end) (search quote depth 13) tt
-
-    right : (d c n h m t : ℤ) → (d -ℤ c) *ℤ n -ℤ h +ℤ (m +ℤ t) ≡ (d -ℤ c) *ℤ n +ℤ m -ℤ h +ℤ t
-    right d c n h m t = ring (d ▸ c ▸ n ▸ h ▸ m ▸ t ▸ end) (search quote depth 13) tt
-
-    moved : (d q c n r h m t : ℤ) → q *ℤ n +ℤ r ≡ m +ℤ t → (d +ℤ q -ℤ c) *ℤ n +ℤ r -ℤ h ≡ (d -ℤ c) *ℤ n +ℤ m -ℤ h +ℤ t
-    moved d q c n r h m t e = left d q c n r h ∙ (ap (λ (z : ℤ). (d -ℤ c) *ℤ n -ℤ h +ℤ z) e ∙ right d c n h m t)
 
 size : (d : ℤ) (i : ℕ) → d ≡ pos i -ℤ pos 94553 → natAbs d ≤ i + 94553
 size d i e = rw e (abs-add (pos i) (negℤ (pos 94553)))
