@@ -3,7 +3,7 @@
  * and gives phase, corrections and offsets for that instant. At the end it shows what each
  * refusal means. The clock here is made up; nothing of this file is part of the proved product.
  *
- *     cc -O2 -Iinclude examples/daemon.c target/staticlib/libenfysgar.a -o daemon
+ *     cc -O2 -Iinclude examples/daemon.c target/staticlib/libenfysgar.a -lm -o daemon
  */
 #include <enfysgar.h>
 

@@ -148,7 +148,7 @@ uint32_t enfys_tide_refusal(int64_t day, uint64_t micros, int64_t k1, int64_t k2
  *
  * Each of these calls computes the whole sum of sixty-two terms again. A caller
  * who wants all three numbers writes a run of one record (enfys_run_write with
- * count 1 and any step) and reads them from it: one sum in place of three.
+ * count 1 and a step of 1) and reads them from it: one sum in place of three.
  */
 int32_t enfys_zonal_ut1(int64_t day, uint64_t micros);
 int32_t enfys_zonal_lod(int64_t day, uint64_t micros);

@@ -1,1 +1,2 @@
+-- Numbers as bytes. Read Numbers.
 pub mod Numbers

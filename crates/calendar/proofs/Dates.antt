@@ -1,15 +1,14 @@
 -- Dates and their indices: each date's index is one more than that of the day before, and no two dates have one index. Assumes nothing.
-use Prim.Native.Nat.{ℕ, zero, suc, _+_, _-_, _*_, _/_, _%_, _<_, _≤_}
+use Prim.Native.Nat.{ℕ, zero, suc, _+_, _-_, _<_, _≤_}
 use mathlib.Core.Path.{_≡_, refl, ap, sym, _∙_, subst}
 use mathlib.Core.Bool.{Bool, true, false, cond}
-use mathlib.Core.Logic.{⊎-elim}
 use native.Mathlib.Omega.{arith}
 use native.Mathlib.Nat.{add-suc, add-zero, le-antisymm}
 use native.Mathlib.Decide.{decLe}
 use lib.Dec.{ltb}
 use borrow.Author.Tests.{ltb-true, ltb-false}
 use Rattle.calendar.specs.declared.Date.{Date}
-use Rattle.calendar.specs.Dates.{monthLengths, sum, monthLength, yearLength, daysOfYears, daysBefore, indexOf, next, dateAfter, date}
+use Rattle.calendar.specs.Dates.{monthLengths, sum, monthLength, daysOfYears, daysBefore, indexOf, next, dateAfter, date}
 use Rattle.calendar.specs.Inner.{leapDay}
 use Rattle.calendar.proofs.Laws.{year-length}
 use Rattle.calendar.proofs.Months.{month-next, month-last, month-inside, month-some, month-apart}

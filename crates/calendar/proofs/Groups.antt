@@ -1,5 +1,5 @@
 -- The arithmetic on groups of 400, 100 and 4 years, counted from 1201-01-01. Assumes nothing.
-use Prim.Native.Nat.{ℕ, suc, _+_, _-_, _*_, _/_, _%_, _<_, _≤_}
+use Prim.Native.Nat.{ℕ, _+_, _-_, _*_, _/_, _%_, _<_, _≤_}
 use mathlib.Core.Path.{_≡_, refl, ap, sym, _∙_, subst}
 use mathlib.Core.Logic.{_⊎_, inl, inr, ⊎-elim}
 use native.Mathlib.Decide.{decLe, ℕ-discrete}
@@ -10,8 +10,8 @@ use native.Mathlib.Omega.{arith}
 use Rattle.calendar.specs.Dates.{daysOfYears, daysBefore, indexOf, dateAfter, date}
 use Rattle.calendar.specs.Inner.{leapDay, monthAt, AtMost3, IsYearDay}
 use Rattle.calendar.specs.declared.YearDay.{YearDay}
-use Rattle.calendar.proofs.Dates.{Valid, unique, after}
-use Rattle.calendar.proofs.Laws.{Leap, not4, not100, not400, by400, leap-cases, years-counted, counted}
+use Rattle.calendar.proofs.Dates.{unique, after}
+use Rattle.calendar.proofs.Laws.{Leap, not4, not100, not400, by400, leap-cases, years-counted}
 use Rattle.calendar.proofs.Months.{Has, month-found}
 
 module _ (a b c d : ℕ) (hb : b ≤ 3) (hc : c ≤ 24) (hd : d ≤ 3) (k : ℕ) (hk : k + 399 ≡ 400 * a + 100 * b + 4 * c + d) where

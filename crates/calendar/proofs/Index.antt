@@ -1,14 +1,13 @@
 -- What acceptance and a day's index tell. Assumes nothing.
-use Prim.Native.Nat.{ℕ, _+_, _-_, _≤_, _<_}
+use Prim.Native.Nat.{ℕ, _≤_, _<_}
 use mathlib.Core.Path.{_≡_, refl, ap, sym, _∙_}
 use mathlib.Core.Bool.{Bool, true, false, cond, _||_}
 use native.Mathlib.Omega.{arith}
 use lib.Dec.{leb}
-use lib.IntN.{ℤ, pos, _-ℤ_, _+ℤ_, natAbs}
+use lib.IntN.{ℤ, pos, _-ℤ_, natAbs}
 use lib.Signed.{ltZ}
-use borrow.Author.Tests.{leb-false, leb-true, lt-leb}
+use borrow.Author.Tests.{leb-false, lt-leb}
 use Rattle.calendar.proofs.Cases.{no-case}
-use Rattle.calendar.specs.declared.DayIndex.{DayIndex}
 use Rattle.calendar.specs.declared.DayIndex.the-variants.{At, Outside}
 use Rattle.calendar.specs.declared.Acceptance.the-variants.{Accepted, NotAccepted}
 use Rattle.calendar.specs.Limits.{firstDay, lastDay, dayMicros}

@@ -1,11 +1,11 @@
 -- Laws of the calendar's definitions. Assumes nothing.
-use Prim.Native.Nat.{ℕ, zero, suc, _+_, _-_, _*_, _/_, _%_, _<_, _≤_}
-use mathlib.Core.Path.{_≡_, refl, ap, sym, _∙_}
+use Prim.Native.Nat.{ℕ, zero, suc, _+_, _-_, _*_, _/_, _%_, _≤_}
+use mathlib.Core.Path.{_≡_, refl}
 use mathlib.Core.Bool.{Bool, true, false, cond, not, _&&_, _||_}
 use native.Mathlib.Omega.{arith}
 use lib.Dec.{eqb}
 use borrow.Author.Tests.{eqb-true, eqb-false}
-use Rattle.calendar.specs.Dates.{leapYear, monthLengths, sum, monthLength, yearLength, daysOfYears, daysBefore, indexOf, next, dateAfter}
+use Rattle.calendar.specs.Dates.{leapYear, monthLengths, sum, yearLength, daysOfYears}
 use Rattle.calendar.specs.Inner.{leapDay}
 
 -- What the three tests of a leap year say.

@@ -1,14 +1,14 @@
 -- What holds of a year's months, each by a test that antt computes. Assumes nothing.
-use Prim.Native.Nat.{ℕ, zero, suc, _+_, _-_, _*_, _/_, _%_, _<_, _≤_}
-use mathlib.Core.Path.{_≡_, refl, ap, sym, _∙_}
-use mathlib.Core.Bool.{Bool, true, false, cond, not, _&&_, _||_}
+use Prim.Native.Nat.{ℕ, zero, suc, _+_, _-_, _<_, _≤_}
+use mathlib.Core.Path.{_≡_, refl}
+use mathlib.Core.Bool.{Bool, true, false, cond, _&&_, _||_}
 use mathlib.Core.List.{List, [], _∷_}
 use native.Mathlib.Omega.{arith}
 use lib.Dec.{T, eqb, leb, ltb, eqb→eq, leb→le, ltb→lt}
 use lib.ListN.{take, getD}
 use mathlib.Core.Logic.{⊎-elim}
 use mir.Facts.{and-yes, or-yes}
-use Rattle.calendar.specs.Dates.{leapYear, monthLengths, sum, monthLength, yearLength, daysBefore}
+use Rattle.calendar.specs.Dates.{leapYear, monthLengths, sum, monthLength, daysBefore}
 use Rattle.calendar.specs.Inner.{leapDay, monthAt}
 use Rattle.calendar.proofs.Below.{allBelow, below}
 

@@ -7,7 +7,6 @@ use lib.Dec.{ltb, leb}
 use lib.IntN.{ℤ}
 use Rattle.calendar.specs.declared.Date.{Date}
 use Rattle.calendar.specs.declared.Instant.{Instant}
-use Rattle.calendar.specs.declared.DayAnswer.{DayAnswer}
 use Rattle.calendar.specs.declared.DayAnswer.the-variants.{Day, NoDay}
 use Rattle.calendar.specs.declared.DateAnswer.the-variants.{OnDate, NoDate}
 use Rattle.calendar.specs.declared.InstantAnswer.the-variants.{AtInstant, NoInstant}
@@ -16,7 +15,7 @@ use Rattle.calendar.specs.Limits.{firstYear, lastYear, dayMicros}
 use Rattle.calendar.specs.Refusals.{Case, case, firstRefusal}
 use Rattle.calendar.specs.Instants.{outside, acceptance, acceptanceRefusal}
 use Rattle.calendar.specs.Dates.{monthLength, dayOf, dateOf, dayRefusalOf, dateRefusalOf}
-use Rattle.calendar.specs.Times.{microsOfTime, timeOf, timeBy, instantOf, instantRefusalOf}
+use Rattle.calendar.specs.Times.{timeOf, timeBy, instantOf, instantRefusalOf}
 
 -- the conditions of a date, of an instant and of a time of day, in their order
 abbrev pub dateCases : ℕ → ℕ → ℕ → List Case

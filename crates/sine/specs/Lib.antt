@@ -1,2 +1,3 @@
+-- The sine and cosine of an angle in turns. Read Exact, then Ours.
 pub mod Exact
 pub mod Ours

@@ -1,11 +1,10 @@
 -- `calendar::before` meets its contract. Assumes nothing.
 use Rattle.calendar.proofs.Months.{month-some}
-use Rattle.calendar.specs.Dates.{monthLength}
 use native.Mathlib.Omega.{arith}
 use native.Mathlib.Nat.{add-zero}
 use mathlib.Core.Path.{_≡_, sym, _∙_}
 use lib.ListN.{getD}
-use Prim.Native.Nat.{_-_, _+_, _≤_}
+use Prim.Native.Nat.{_-_, _+_}
 use borrow.Author.Tests.{le-leb, lt-leb}
 use Rattle.calendar.specs.Dates.{daysBefore}
 use Rattle.calendar.specs.Inner.{leapDay}

@@ -3,9 +3,9 @@ use Rattle.calendar.specs.Inner.{dayIndex}
 use mir.Facts.{toZ-ofZ}
 use Rattle.calendar.proofs.Index.{HasIndex, index-outside, index-at}
 use Rattle.calendar.specs.declared.DateAnswer.the-variants.{OnDate}
-use Rattle.calendar.specs.Dates.{dateOf, dateAfter}
+use Rattle.calendar.specs.Dates.{dateOf}
 use native.Mathlib.Omega.{arith}
-use mathlib.Core.Path.{_≡_, _∙_, ap, sym}
+use mathlib.Core.Path.{_∙_, ap, sym}
 use borrow.Author.Needs.{needs}
 use Rattle.calendar.proofs.date_of.Statement.{statement}
 use Rattle.calendar.proofs.date_of.Tie as tie

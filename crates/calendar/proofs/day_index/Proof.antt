@@ -8,8 +8,7 @@ use lib.IntN.{ℤ, pos, _+ℤ_, natAbs}
 use Rattle.calendar.specs.Limits.{firstDay, lastDay}
 use lib.Signed.{ltZ}
 use mathlib.Core.Path.{_≡_, _∙_, ap, sym}
-use mathlib.Core.Bool.{Bool, true, false}
-use mir.Syntax.{w64}
+use mathlib.Core.Bool.{true, false}
 use mir.Facts.{toZ-ofZ}
 use Rattle.calendar.proofs.day_index.Statement.{statement}
 use Rattle.calendar.proofs.day_index.Tie as tie

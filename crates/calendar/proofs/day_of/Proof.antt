@@ -3,7 +3,7 @@ use Rattle.calendar.specs.declared.DayAnswer.the-variants.{Day}
 use mir.Facts.{toZ-ofZ}
 use Rattle.calendar.specs.Dates.{date}
 use Prim.Native.Nat.{_+_, _-_}
-use mathlib.Core.Path.{ap, _∙_, sym, _≡_}
+use mathlib.Core.Path.{ap, _∙_, _≡_}
 use Rattle.calendar.specs.Dates.{dayOf, numberOf, indexOf}
 use native.Mathlib.Omega.{arith}
 use borrow.Author.Tests.{lt-ltb, le-ltb}

@@ -1,5 +1,5 @@
 -- `calendar::instant_of` meets its contract. Assumes nothing.
-use mathlib.Core.Path.{_≡_, _∙_, ap, sym}
+use mathlib.Core.Path.{_∙_, ap, sym}
 use lib.IntN.{ℤ}
 use mir.Facts.{toZ-ofZ}
 use Rattle.calendar.specs.Times.{timeOf, instantOf}

@@ -1,5 +1,5 @@
 -- `enfysgar::calendar_calls::enfys_date_refusal` meets its contract. Assumes nothing.
-use mathlib.Core.Path.{_≡_, _∙_, ap, sym}
+use mathlib.Core.Path.{_∙_, ap, sym}
 use Rattle.calendar.specs.Dates.{dayRefusalOf}
 use borrow.Author.Needs.{needs}
 use Rattle.enfysgar.proofs.calendar_calls.enfys_date_refusal.Statement.{statement}

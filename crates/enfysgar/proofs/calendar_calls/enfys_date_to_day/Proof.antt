@@ -1,5 +1,5 @@
 -- `enfysgar::calendar_calls::enfys_date_to_day` meets its contract. Assumes nothing.
-use mathlib.Core.Path.{_≡_, _∙_, ap, sym}
+use mathlib.Core.Path.{_∙_, ap, sym}
 use mir.Facts.{toZ-ofZ}
 use Rattle.calendar.specs.Dates.{dayNumberOf}
 use borrow.Author.Needs.{needs}

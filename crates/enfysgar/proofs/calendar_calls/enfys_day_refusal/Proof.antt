@@ -1,5 +1,5 @@
 -- `enfysgar::calendar_calls::enfys_day_refusal` meets its contract. Assumes nothing.
-use mathlib.Core.Path.{_≡_, _∙_, ap, sym}
+use mathlib.Core.Path.{_∙_, ap, sym}
 use mir.Facts.{toZ-ofZ}
 use lib.IntN.{ℤ}
 use Rattle.calendar.specs.Dates.{dateOf, dateRefusalOf}

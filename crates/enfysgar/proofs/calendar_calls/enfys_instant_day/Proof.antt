@@ -1,5 +1,5 @@
 -- `enfysgar::calendar_calls::enfys_instant_day` meets its contract. Assumes nothing.
-use mathlib.Core.Path.{_≡_, _∙_, ap, sym}
+use mathlib.Core.Path.{_∙_, ap, sym}
 use mir.Facts.{toZ-ofZ}
 use Rattle.calendar.specs.Times.{instantDayOf}
 use borrow.Author.Needs.{needs}

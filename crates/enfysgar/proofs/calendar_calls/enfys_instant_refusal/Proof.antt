@@ -1,5 +1,5 @@
 -- `enfysgar::calendar_calls::enfys_instant_refusal` meets its contract. Assumes nothing.
-use mathlib.Core.Path.{_≡_, _∙_, ap, sym}
+use mathlib.Core.Path.{_∙_, ap, sym}
 use Rattle.calendar.specs.Times.{instantRefusalOf}
 use borrow.Author.Needs.{needs}
 use Rattle.enfysgar.proofs.calendar_calls.enfys_instant_refusal.Statement.{statement}

@@ -1,5 +1,5 @@
 -- `enfysgar::clock_calls::enfys_join_day` meets its contract. Assumes nothing.
-use mathlib.Core.Path.{_≡_, _∙_, ap, sym}
+use mathlib.Core.Path.{_∙_, ap, sym}
 use mir.Facts.{toZ-ofZ}
 use lib.IntN.{ℤ}
 use Rattle.clock.specs.Words.{joinOf, joinedDayOf}

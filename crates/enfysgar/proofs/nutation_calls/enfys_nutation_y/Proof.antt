@@ -1,5 +1,5 @@
 -- `enfysgar::nutation_calls::enfys_nutation_y` meets its contract. Assumes nothing.
-use mathlib.Core.Path.{_≡_, _∙_, ap, sym}
+use mathlib.Core.Path.{_∙_, ap, sym}
 use mir.Facts.{toZ-ofZ}
 use lib.IntN.{ℤ}
 use Rattle.nutation.specs.Ours.{nutationOf, yOf}
