@@ -8,10 +8,12 @@ use lib.IntN.{ℤ, pos, _-ℤ_, natAbs}
 use lib.Signed.{ltZ}
 use borrow.Author.Tests.{leb-false, lt-leb}
 use Rattle.calendar.proofs.Cases.{no-case}
+use Rattle.calendar.proofs.FirstRefusal.{NoneApplies, handed-on, none-answered, answered-none, refused-alike}
 use Rattle.calendar.specs.declared.DayIndex.the-variants.{At, Outside}
 use Rattle.calendar.specs.declared.Acceptance.the-variants.{Accepted, NotAccepted}
 use Rattle.calendar.specs.Limits.{firstDay, lastDay, dayMicros}
-use Rattle.calendar.specs.Instants.{outside, indexAt, acceptance}
+use Rattle.calendar.specs.Refusals.{refusedOr, firstRefusal}
+use Rattle.calendar.specs.Instants.{outside, indexAt, instantCases, acceptance, acceptanceRefusal}
 use Rattle.calendar.specs.Inner.{dayIndex}
 use Rattle.calendar.proofs.Signs.{firstIndex, lastIndex, Between, between}
 
@@ -31,7 +33,7 @@ pub record HasIndex (z : ℤ) (n : ℕ) : Type 0 where
   pub high : n ≤ lastIndex
   pub is : z ≡ pos n -ℤ pos 94553
 
-both-false : (a b : Bool) → a || b ≡ false → (a ≡ false) × (b ≡ false)
+pub both-false : (a b : Bool) → a || b ≡ false → (a ≡ false) × (b ≡ false)
 both-false false b e = (refl, e)
 both-false true b e = (e, no-case (cc))
 
@@ -63,25 +65,47 @@ index-at z n e = by (outside z) refl e
 -- What holds of an accepted instant whose day has the index i.
 pub record AcceptedAt (d : ℤ) (m i : ℕ) : Type 0 where
   pub inside : outside d ≡ false
+  pub within : leb dayMicros m ≡ false
   pub less : m < dayMicros
   pub index : indexAt d ≡ i
   pub low : firstIndex ≤ i
   pub high : i ≤ lastIndex
   pub is : d ≡ pos i -ℤ pos 94553
 
+pub none-accepted : (d : ℤ) (m : ℕ) → NoneApplies (instantCases d m) → AcceptedAt d m (indexAt d)
+none-accepted d m r =
+    let h : HasIndex d (indexAt d) = inside-index d (r .0) in
+    record { inside = r .0; within = r .1 .0; less = leb-false _ _ (r .1 .0); index = refl; low = h .low; high = h .high; is = h .is }
+
 pub accepted-at : (d : ℤ) (m i : ℕ) → acceptance d m ≡ Accepted i → AcceptedAt d m i
 unfolding acceptance
-accepted-at d m i e = by (outside d) (leb dayMicros m) refl refl e
-  where
-    by : (a b : Bool) → outside d ≡ a → leb dayMicros m ≡ b → cond a (NotAccepted 8) (cond b (NotAccepted 9) (Accepted (indexAt d))) ≡ Accepted i → AcceptedAt d m i
-    by true b p q e = no-case (cc)
-    by false true p q e = no-case (cc)
-    by false false p q e =
-        let f : indexAt d ≡ i = cc in
-        let h : HasIndex d i = rw f at (inside-index d p) in
-        record { inside = p; less = leb-false _ _ q; index = f; low = h .low; high = h .high; is = h .is }
+accepted-at d m i e =
+    let r = answered-none NotAccepted (instantCases d m) (Accepted (indexAt d)) (Accepted i) (λ n p. no-case (cc)) e in
+    let g : Accepted (indexAt d) ≡ Accepted i = r .1 in
+    let f : indexAt d ≡ i = cc in
+    rw f at (none-accepted d m (r .0))
 
--- a day number in range with microseconds below a day's is accepted
-pub accepted : (d : ℤ) (m : ℕ) → outside d ≡ false → m < dayMicros → acceptance d m ≡ Accepted (indexAt d)
+-- an instant of which no case applies is accepted
+pub accepted-none : (d : ℤ) (m : ℕ) → NoneApplies (instantCases d m) → acceptance d m ≡ Accepted (indexAt d)
 unfolding acceptance
-accepted d m o h = simp (o, lt-leb dayMicros m h)
+accepted-none d m h = none-answered NotAccepted (instantCases d m) _ h
+
+-- a day number in range with microseconds below a day's
+pub accepted : (d : ℤ) (m : ℕ) → outside d ≡ false → m < dayMicros → acceptance d m ≡ Accepted (indexAt d)
+accepted d m o h = accepted-none d m (o, (lt-leb dayMicros m h, tt))
+
+-- ---- a service that asks for acceptance and hands its refusals on
+
+module _ {A : Type 0} (refuse : ℕ → A) (answer : A) (d : ℤ) (m : ℕ) where
+  pub refused-too : {n : ℕ} → acceptance d m ≡ NotAccepted n → refuse n ≡ refusedOr refuse (instantCases d m) answer
+  unfolding acceptance
+  refused-too {n} e = sym (refused-alike NotAccepted refuse (instantCases d m) _ answer n (λ k p. cc) (λ p. no-case (cc)) e)
+
+  pub answered-too : {i : ℕ} → acceptance d m ≡ Accepted i → answer ≡ refusedOr refuse (instantCases d m) answer
+  unfolding acceptance
+  answered-too {i} e = sym (none-answered refuse (instantCases d m) answer (answered-none NotAccepted (instantCases d m) _ (Accepted i) (λ n p. no-case (cc)) e .0))
+
+-- an instant is refused by the first of its cases that applies
+pub acceptance-refusal : (d : ℤ) (m : ℕ) → acceptanceRefusal (acceptance d m) ≡ firstRefusal (instantCases d m)
+unfolding acceptance
+acceptance-refusal d m = handed-on NotAccepted acceptanceRefusal (λ n. refl) (instantCases d m) _

@@ -1,7 +1,7 @@
 -- Dates and day numbers are inverse, and day numbers rise by one from a date to the next. Assumes nothing.
 use Prim.Native.Nat.{ℕ, suc, _+_, _-_, _≤_}
-use mathlib.Core.Path.{_≡_, refl, ap, sym, _∙_, subst}
-use mathlib.Core.Bool.{Bool, true, false, cond, _||_}
+use mathlib.Core.Path.{_≡_, ap, sym, _∙_, subst}
+use mathlib.Core.Bool.{false}
 use native.Mathlib.Omega.{arith}
 use native.Mathlib.Decide.{decLe}
 use native.Mathlib.Numerals.{add-one}
@@ -9,16 +9,16 @@ use lib.Dec.{ltb}
 use lib.IntN.{ℤ, pos, _+ℤ_, natAbs, +ℤ-assoc, +ℤ-comm, -ℤ-+ℤ-cancel}
 use borrow.Author.Tests.{le-ltb, ltb-false}
 use Rattle.calendar.proofs.Cases.{no-case}
+use Rattle.calendar.proofs.FirstRefusal.{NoneApplies, none-answered, answered-none}
 use Rattle.calendar.specs.declared.Date.{Date}
-use Rattle.calendar.specs.declared.DayAnswer.{DayAnswer}
 use Rattle.calendar.specs.declared.DayAnswer.the-variants.{Day, NoDay}
 use Rattle.calendar.specs.declared.DateAnswer.the-variants.{OnDate, NoDate}
 use Rattle.calendar.specs.Limits.{firstYear, lastYear}
 use Rattle.calendar.specs.Instants.{outside, indexAt}
-use Rattle.calendar.specs.Dates.{monthLength, daysOfYears, indexOf, next, dateAfter, date, numberOf, dayOf, dateOf}
+use Rattle.calendar.specs.Dates.{monthLength, daysOfYears, indexOf, next, dateAfter, date, numberOf, dateCases, dayOf, dayCases, dateOf}
 use Rattle.calendar.proofs.Dates.{Valid, Found, after, after-index, index-low, index-high, years-apart}
 use Rattle.calendar.proofs.Signs.{firstIndex, lastIndex}
-use Rattle.calendar.proofs.Index.{HasIndex, inside-index}
+use Rattle.calendar.proofs.Index.{HasIndex, both-false, inside-index}
 use Rattle.calendar.proofs.Laws.{years-counted}
 
 -- A date is accepted: its year is in range, its month 1..12, and its day one of that month's.
@@ -39,19 +39,18 @@ unfolding dayOf
 accepted-day y m d a =
     simp (le-ltb y firstYear (a .from), le-ltb lastYear y (a .to), le-ltb m 1 (a .one), le-ltb 12 m (a .twelve), le-ltb d 1 (a .first), le-ltb (monthLength y m) d (a .last))
 
-past : (a b : Bool) (x : DayAnswer) (k : ℕ) (z : ℤ) → cond (a || b) (NoDay k) x ≡ Day z → (a ≡ false) × ((b ≡ false) × (x ≡ Day z))
-past true b x k z e = no-case (cc)
-past false true x k z e = no-case (cc)
-past false false x k z e = (refl, (refl, e))
+-- no case of a date applies
+pub none-date : (y m d : ℕ) → NoneApplies (dateCases y m d) → AcceptedDate y m d
+none-date y m d h =
+    let p = both-false (ltb y firstYear) (ltb lastYear y) (h .0) in
+    let q = both-false (ltb m 1) (ltb 12 m) (h .1 .0) in
+    let r = both-false (ltb d 1) (ltb (monthLength y m) d) (h .1 .1 .0) in
+    record { from = ltb-false _ _ (p .0); to = ltb-false _ _ (p .1); one = ltb-false _ _ (q .0); twelve = ltb-false _ _ (q .1); first = ltb-false _ _ (r .0); last = ltb-false _ _ (r .1) }
 
 -- PROMISE. Only an accepted date has a day number.
 pub day-accepted : (y m d : ℕ) (z : ℤ) → dayOf y m d ≡ Day z → AcceptedDate y m d
 unfolding dayOf
-day-accepted y m d z e =
-    let p : (ltb y firstYear ≡ false) × ((ltb lastYear y ≡ false) × _) = past (ltb y firstYear) (ltb lastYear y) _ 1 z e in
-    let q : (ltb m 1 ≡ false) × ((ltb 12 m ≡ false) × _) = past (ltb m 1) (ltb 12 m) _ 2 z (p .1 .1) in
-    let r : (ltb d 1 ≡ false) × ((ltb (monthLength y m) d ≡ false) × _) = past (ltb d 1) (ltb (monthLength y m) d) _ 3 z (q .1 .1) in
-    record { from = ltb-false _ _ (p .0); to = ltb-false _ _ (p .1 .0); one = ltb-false _ _ (q .0); twelve = ltb-false _ _ (q .1 .0); first = ltb-false _ _ (r .0); last = ltb-false _ _ (r .1 .0) }
+day-accepted y m d z e = none-date y m d (answered-none NoDay (dateCases y m d) _ (Day z) (λ n p. no-case (cc)) e .0)
 
 -- the days before the first year, and before the year after the last
 years-first : daysOfYears (firstYear - 1600) ≡ firstIndex
@@ -100,11 +99,10 @@ there-and-back y m d z e =
 -- a day number with a date is in range
 pub date-range : (z : ℤ) (t : Date) → dateOf z ≡ OnDate t → (outside z ≡ false) × (t ≡ dateAfter (indexAt z))
 unfolding dateOf
-date-range z t e = by (outside z) e
-  where
-    by : (a : Bool) → cond a (NoDate 8) (OnDate (dateAfter (indexAt z))) ≡ OnDate t → (a ≡ false) × (t ≡ dateAfter (indexAt z))
-    by true e = no-case (cc)
-    by false e = (refl, cc)
+date-range z t e =
+    let r = answered-none NoDate (dayCases z) _ (OnDate t) (λ n p. no-case (cc)) e in
+    let g : OnDate (dateAfter (indexAt z)) ≡ OnDate t = r .1 in
+    (r .0 .0, cc)
 
 -- a date whose index is in range is accepted
 in-range : (t : Date) → Valid t → firstIndex ≤ indexOf t → indexOf t ≤ lastIndex → AcceptedDate (t .year) (t .month) (t .day)
@@ -133,7 +131,7 @@ back-and-there z t e =
 -- PROMISE. Every accepted day number has a date.
 pub has-date : (z : ℤ) → outside z ≡ false → dateOf z ≡ OnDate (dateAfter (indexAt z))
 unfolding dateOf
-has-date z o = simp o
+has-date z o = none-answered NoDate (dayCases z) _ (o, tt)
 
 next-index : (z : ℤ) → HasIndex z (indexAt z) → indexAt (z +ℤ pos 1) ≡ suc (indexAt z)
 unfolding indexAt

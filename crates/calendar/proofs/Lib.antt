@@ -1,4 +1,5 @@
 pub mod Cases
+pub mod FirstRefusal
 pub mod Laws
 pub mod Below
 pub mod Months
@@ -8,4 +9,3 @@ pub mod Signs
 pub mod Index
 pub mod Inverse
 pub mod Times
-pub mod Refusals

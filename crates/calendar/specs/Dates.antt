@@ -6,6 +6,7 @@ use lib.Dec.{eqb, ltb}
 use lib.IntN.{ℤ, pos, _-ℤ_}
 use lib.ListN.{take, getD}
 use Rattle.calendar.specs.Limits.{firstYear, lastYear}
+use Rattle.calendar.specs.Refusals.{Case, case, refusedOr}
 use Rattle.calendar.specs.Instants.{outside, indexAt}
 use Rattle.calendar.specs.declared.Date.{Date}
 use Rattle.calendar.specs.declared.DayAnswer.{DayAnswer}
@@ -65,17 +66,25 @@ unfoldable pub dateAfter : ℕ → Date
 dateAfter zero = date 1600 1 1
 dateAfter (suc n) = next (dateAfter n)
 
--- a date's day number, or the first of the refusals 1, 2 and 3 that applies
-unfoldable pub dayOf : ℕ → ℕ → ℕ → DayAnswer
-dayOf y m d =
-    cond (ltb y firstYear || ltb lastYear y) (NoDay 1)
-    (cond (ltb m 1 || ltb 12 m) (NoDay 2)
-    (cond (ltb d 1 || ltb (monthLength y m) d) (NoDay 3)
-    (Day (numberOf (indexOf (date y m d))))))
+-- the refusals of a date
+abbrev pub dateCases : (y m d : ℕ) → List Case
+dateCases y m d =
+    case 1 (ltb y firstYear || ltb lastYear y)
+    ∷ case 2 (ltb m 1 || ltb 12 m)
+    ∷ case 3 (ltb d 1 || ltb (monthLength y m) d)
+    ∷ []
 
--- a day number's date, or refusal 8
+-- a date's day number, or its refusal
+unfoldable pub dayOf : (y m d : ℕ) → DayAnswer
+dayOf y m d = refusedOr NoDay (dateCases y m d) (Day (numberOf (indexOf (date y m d))))
+
+-- the refusal of a day number
+abbrev pub dayCases : ℤ → List Case
+dayCases z = case 8 (outside z) ∷ []
+
+-- a day number's date, or its refusal
 unfoldable pub dateOf : ℤ → DateAnswer
-dateOf z = cond (outside z) (NoDate 8) (OnDate (dateAfter (indexAt z)))
+dateOf z = refusedOr NoDate (dayCases z) (OnDate (dateAfter (indexAt z)))
 
 -- the numbers that the exported calls give for an answer: 0 for success, and zeros beside a refusal
 abbrev pub dayNumberOf : DayAnswer → ℤ

@@ -5,8 +5,12 @@ use mathlib.Core.Bool.{cond}
 use mathlib.Core.Logic.{_⊎_}
 use lib.Dec.{ltb}
 use lib.IntN.{ℤ}
-use Rattle.calendar.specs.Instants.{outside, indexAt}
+use Rattle.calendar.specs.Refusals.{refusedOr}
+use Rattle.calendar.specs.Instants.{instant, outside, indexAt}
 use Rattle.calendar.specs.Dates.{leapYear, daysOfYears}
+use Rattle.calendar.specs.Times.{microsOfTime, timeCases}
+use Rattle.calendar.specs.declared.InstantAnswer.{InstantAnswer}
+use Rattle.calendar.specs.declared.InstantAnswer.the-variants.{AtInstant, NoInstant}
 use Rattle.calendar.specs.declared.DayIndex.{DayIndex}
 use Rattle.calendar.specs.declared.DayIndex.the-variants.{At, Outside}
 use Rattle.calendar.specs.declared.YearDay.{YearDay}
@@ -18,6 +22,11 @@ leapDay y = cond (leapYear y) 1 0
 -- a day number's index, or that it is outside the range
 unfoldable pub dayIndex : ℤ → DayIndex
 dayIndex z = cond (outside z) Outside (At (indexAt z))
+
+-- the instant of a time on the day d, or the time's refusal
+unfoldable pub timeOf : ℤ → (hour minute second microsecond : ℕ) → InstantAnswer
+timeOf d hour minute second microsecond =
+    refusedOr NoInstant (timeCases hour minute second microsecond) (AtInstant (instant d (microsOfTime hour minute second microsecond)))
 
 -- the month of the day e of a year, counted from 0, by arithmetic
 abbrev pub monthAt : ℕ → ℕ → ℕ

@@ -1,11 +1,13 @@
 -- An instant is a day number (Modified Julian Date) and the microseconds of that day, in Terrestrial Time. Which instants are accepted.
 use Prim.Native.Nat.{ℕ}
 use mathlib.Core.Path.{_≡_}
-use mathlib.Core.Bool.{Bool, cond, _||_}
+use mathlib.Core.Bool.{Bool, _||_}
+use mathlib.Core.List.{List, [], _∷_}
 use lib.Dec.{leb}
 use lib.IntN.{ℤ, pos, _+ℤ_, natAbs}
 use lib.Signed.{ltZ}
 use Rattle.calendar.specs.Limits.{firstDay, lastDay, dayMicros}
+use Rattle.calendar.specs.Refusals.{Case, case, refusedOr}
 use Rattle.calendar.specs.declared.Instant.{Instant}
 use Rattle.calendar.specs.declared.Acceptance.{Acceptance}
 use Rattle.calendar.specs.declared.Acceptance.the-variants.{Accepted, NotAccepted}
@@ -21,12 +23,13 @@ outside d = ltZ d firstDay || ltZ lastDay d
 unfoldable pub indexAt : ℤ → ℕ
 indexAt d = natAbs (d +ℤ pos 94553)
 
--- the first of the refusals 8 and 9 that applies to an instant, or the index of its day
+-- the refusals of an instant
+abbrev pub instantCases : ℤ → ℕ → List Case
+instantCases d m = case 8 (outside d) ∷ case 9 (leb dayMicros m) ∷ []
+
+-- whether an instant is accepted: a refusal, or the index of its day
 unfoldable pub acceptance : ℤ → ℕ → Acceptance
-acceptance d m =
-    cond (outside d) (NotAccepted 8)
-    (cond (leb dayMicros m) (NotAccepted 9)
-    (Accepted (indexAt d)))
+acceptance d m = refusedOr NotAccepted (instantCases d m) (Accepted (indexAt d))
 
 -- neither applies
 abbrev pub IsAccepted : ℤ → ℕ → Type 0

@@ -11,7 +11,11 @@ pub record Case : Type 0 where
 abbrev pub case : ℕ → Bool → Case
 case n b = record { number = n; applies = b }
 
+-- the refusal by the number of the first case that applies, or the answer if none does
+abbrev pub refusedOr : {A : Type 0} → (ℕ → A) → List Case → A → A
+refusedOr refuse [] answer = answer
+refusedOr refuse (c ∷ cs) answer = cond (c .applies) (refuse (c .number)) (refusedOr refuse cs answer)
+
 -- the number of the first that applies, or 0
 abbrev pub firstRefusal : List Case → ℕ
-firstRefusal [] = 0
-firstRefusal (c ∷ cs) = cond (c .applies) (c .number) (firstRefusal cs)
+firstRefusal cs = refusedOr (λ n. n) cs 0

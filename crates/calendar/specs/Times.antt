@@ -1,12 +1,11 @@
 -- Service (b): a date and a time of day as an instant.
 use Prim.Native.Nat.{ℕ, _+_, _*_}
-use mathlib.Core.Bool.{cond}
+use mathlib.Core.List.{List, [], _∷_, _++_}
 use lib.Dec.{ltb}
 use lib.IntN.{ℤ, pos}
+use Rattle.calendar.specs.Refusals.{Case, case, refusedOr}
 use Rattle.calendar.specs.Instants.{instant}
-use Rattle.calendar.specs.Dates.{dayOf}
-use Rattle.calendar.specs.declared.DayAnswer.{DayAnswer}
-use Rattle.calendar.specs.declared.DayAnswer.the-variants.{Day, NoDay}
+use Rattle.calendar.specs.Dates.{date, indexOf, numberOf, dateCases}
 use Rattle.calendar.specs.declared.InstantAnswer.{InstantAnswer}
 use Rattle.calendar.specs.declared.InstantAnswer.the-variants.{AtInstant, NoInstant}
 
@@ -14,23 +13,15 @@ use Rattle.calendar.specs.declared.InstantAnswer.the-variants.{AtInstant
 abbrev pub microsOfTime : ℕ → ℕ → ℕ → ℕ → ℕ
 microsOfTime hour minute second microsecond = ((hour * 60 + minute) * 60 + second) * 1000000 + microsecond
 
--- the instant of a time on the day d, or the first of the refusals 4 to 7 that applies
-unfoldable pub timeOf : ℤ → ℕ → ℕ → ℕ → ℕ → InstantAnswer
-timeOf d hour minute second microsecond =
-    cond (ltb 23 hour) (NoInstant 4)
-    (cond (ltb 59 minute) (NoInstant 5)
-    (cond (ltb 59 second) (NoInstant 6)
-    (cond (ltb 999999 microsecond) (NoInstant 7)
-    (AtInstant (instant d (microsOfTime hour minute second microsecond))))))
+-- the refusals of a time of day
+abbrev pub timeCases : (hour minute second microsecond : ℕ) → List Case
+timeCases hour minute second microsecond = case 4 (ltb 23 hour) ∷ case 5 (ltb 59 minute) ∷ case 6 (ltb 59 second) ∷ case 7 (ltb 999999 microsecond) ∷ []
 
--- the date's refusal comes first
-abbrev pub timeBy : DayAnswer → ℕ → ℕ → ℕ → ℕ → InstantAnswer
-timeBy (Day d) hour minute second microsecond = timeOf d hour minute second microsecond
-timeBy (NoDay n) hour minute second microsecond = NoInstant n
-
--- the instant of a date and a time, or the first of the refusals 1 to 7 that applies
+-- the instant of a date and a time, or its refusal: the date's come first
 unfoldable pub instantOf : (year month day hour minute second microsecond : ℕ) → InstantAnswer
-instantOf year month day hour minute second microsecond = timeBy (dayOf year month day) hour minute second microsecond
+instantOf year month day hour minute second microsecond =
+    refusedOr NoInstant (dateCases year month day ++ timeCases hour minute second microsecond)
+    (AtInstant (instant (numberOf (indexOf (date year month day))) (microsOfTime hour minute second microsecond)))
 
 -- the numbers that the exported calls give for an answer
 abbrev pub instantDayOf : InstantAnswer → ℤ

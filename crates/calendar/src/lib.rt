@@ -3,8 +3,8 @@ ghost use mathlib.Core.Path.{_≡_};
 ghost use Prim.Native.Nat.{_+_, _≤_, _<_};
 ghost use Rattle.calendar.specs.Instants.{acceptance};
 ghost use Rattle.calendar.specs.Dates.{monthLength, daysOfYears, daysBefore, dateAfter, numberOf, dayOf, dateOf};
-ghost use Rattle.calendar.specs.Times.{timeOf, instantOf};
-ghost use Rattle.calendar.specs.Inner.{leapDay, dayIndex, monthAt, AtMost3, IsYearDay};
+ghost use Rattle.calendar.specs.Times.{instantOf};
+ghost use Rattle.calendar.specs.Inner.{leapDay, dayIndex, timeOf, monthAt, AtMost3, IsYearDay};
 
 // The limits, each in this one place.
 const FIRST_YEAR: u64 = 1900;

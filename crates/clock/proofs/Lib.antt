@@ -1,3 +1,2 @@
 pub mod Mark
 pub mod Words
-pub mod Refusals

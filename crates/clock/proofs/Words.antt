@@ -1,22 +1,21 @@
 -- What splitting and joining promise of each other. Assumes nothing.
 use Prim.Native.Nat.{ℕ, zero, suc, _+_, _-_, _*_, _/_, _%_, _<_, _≤_}
 use mathlib.Core.Path.{_≡_, refl, ap, _∙_, sym, subst}
-use mathlib.Core.Bool.{Bool, true, false, cond}
+use mathlib.Core.Bool.{Bool, true, false, cond, not}
 use native.Mathlib.Omega.{arith}
-use lib.Dec.{ltb, eqb}
+use lib.Dec.{ltb}
 use lib.IntN.{ℤ, pos, negsuc, negℤ, _+ℤ_, _-ℤ_, natAbs, negℤ-+ℤ, +ℤ-comm, +ℤ-assoc, +ℤ-invr, +ℤ-idl, -ℤ-+ℤ-cancel}
 use borrow.Author.Tests.{eq-eqb, ne-eqb, ltb-true, ltb-false, eqb-true}
 use Rattle.calendar.proofs.Cases.{no-case}
 use Rattle.calendar.specs.declared.Instant.{Instant}
-use Rattle.calendar.specs.declared.Acceptance.{Acceptance}
-use Rattle.calendar.specs.declared.Acceptance.the-variants.{Accepted, NotAccepted}
 use Rattle.calendar.specs.Limits.{dayMicros}
-use Rattle.calendar.specs.Instants.{instant, indexAt, acceptance, IsAccepted}
-use Rattle.calendar.proofs.Index.{AcceptedAt, accepted-at, accepted}
+use Rattle.calendar.specs.Instants.{instant, indexAt, instantCases, IsAccepted}
+use Rattle.calendar.proofs.FirstRefusal.{answered-none}
+use Rattle.calendar.proofs.Index.{AcceptedAt, accepted-at, none-accepted, accepted, answered-too}
 use Rattle.clock.specs.declared.ClockWords.{ClockWords}
-use Rattle.clock.specs.declared.SplitAnswer.the-variants.{Split}
+use Rattle.clock.specs.declared.SplitAnswer.the-variants.{Split, NoSplit}
 use Rattle.clock.specs.declared.JoinAnswer.the-variants.{Joined, NoJoin}
-use Rattle.clock.specs.Words.{markUnit, mark, timeWord, words, splitBy, splitOf, joinBy, joinOf}
+use Rattle.clock.specs.Words.{markUnit, mark, timeWord, words, splitOf, joinCases, joinOf}
 use Rattle.clock.proofs.Mark.{mark-index}
 
 low-part : (m k : ℕ) → m < dayMicros → (m + k * markUnit) % markUnit ≡ m
@@ -32,19 +31,15 @@ pub record WasSplit (d : ℤ) (m : ℕ) (w : ClockWords) : Type 0 where
 
 pub was-split : (d : ℤ) (m : ℕ) (w : ClockWords) → splitOf d m ≡ Split w → WasSplit d m w
 unfolding splitOf
-was-split d m w e = by (acceptance d m) refl e
-  where
-    by : (a : Acceptance) → acceptance d m ≡ a → splitBy a d m ≡ Split w → WasSplit d m w
-    by (NotAccepted n) p e = no-case (cc)
-    by (Accepted i) p e =
-        let a : AcceptedAt d m i = accepted-at d m i p in
-        let f : words d (timeWord d m) ≡ w = cc in
-        record { accepted = subst (AcceptedAt d m) (sym (a .index)) a; is = sym f }
+was-split d m w e =
+    let r = answered-none NoSplit (instantCases d m) (Split (words d (timeWord d m))) (Split w) (λ n p. no-case (cc)) e in
+    let g : Split (words d (timeWord d m)) ≡ Split w = r .1 in
+    record { accepted = none-accepted d m (r .0); is = cc }
 
 -- an accepted instant is split
 pub split-accepted : (d : ℤ) (m : ℕ) → IsAccepted d m → splitOf d m ≡ Split (words d (timeWord d m))
 unfolding splitOf
-split-accepted d m a = ap (λ (x : Acceptance). splitBy x d m) a
+split-accepted d m a = sym (answered-too NoSplit _ d m a)
 
 -- what it means that two words were joined
 pub record WasJoined (d : ℤ) (t : ℕ) (i : Instant) : Type 0 where
@@ -54,25 +49,21 @@ pub record WasJoined (d : ℤ) (t : ℕ) (i : Instant) : Type 0 where
 
 pub was-joined : (d : ℤ) (t : ℕ) (i : Instant) → joinOf d t ≡ Joined i → WasJoined d t i
 unfolding joinOf
-was-joined d t i e = by (acceptance d (t % markUnit)) (eqb (t / markUnit) (mark d)) refl refl e
+was-joined d t i e =
+    let r = answered-none NoJoin (joinCases d t) (Joined (instant d (t % markUnit))) (Joined i) (λ n p. no-case (cc)) e in
+    let g : Joined (instant d (t % markUnit)) ≡ Joined i = r .1 in
+    record { accepted = none-accepted d (t % markUnit) (r .0 .0, (r .0 .1 .0, tt)); marked = eqb-true _ _ (not-false _ (r .0 .1 .1 .0)); is = cc }
   where
-    by : (a : Acceptance) (c : Bool) → acceptance d (t % markUnit) ≡ a → eqb (t / markUnit) (mark d) ≡ c → joinBy a d t ≡ Joined i → WasJoined d t i
-    by (NotAccepted n) c p r e = no-case (cc)
-    by (Accepted k) true p r e =
-        let a : AcceptedAt d (t % markUnit) k = accepted-at d (t % markUnit) k p in
-        let g : Joined (instant d (t % markUnit)) ≡ Joined i = simp r at e in
-        let f : instant d (t % markUnit) ≡ i = cc in
-        record { accepted = subst (AcceptedAt d (t % markUnit)) (sym (a .index)) a; marked = eqb-true _ _ r; is = sym f }
-    by (Accepted k) false p r e =
-        let g : NoJoin 10 ≡ Joined i = simp r at e in
-        no-case (cc)
+    not-false : (b : Bool) → not b ≡ false → b ≡ true
+    not-false true p = refl
+    not-false false p = no-case (cc)
 
 -- PROMISE. Splitting an accepted instant and joining the words gives the instant back.
 pub split-then-join : (d : ℤ) (m : ℕ) → IsAccepted d m → joinOf d (timeWord d m) ≡ Joined (instant d m)
 unfolding joinOf
 split-then-join d m a =
-    let h : m < dayMicros = accepted-at d m (indexAt d) a .less in
-    simp (low-part m (mark d) h, high-part m (mark d) h, a, eq-eqb (mark d) (mark d) refl)
+    let k : AcceptedAt d m (indexAt d) = accepted-at d m (indexAt d) a in
+    simp (low-part m (mark d) (k .less), high-part m (mark d) (k .less), k .inside, k .within, eq-eqb (mark d) (mark d) refl)
 
 -- PROMISE. Words that are joined are those that their instant is split into.
 pub join-then-split : (d : ℤ) (t : ℕ) (i : Instant) → joinOf d t ≡ Joined i → splitOf (i .day) (i .micros) ≡ Split (words d t)
@@ -128,7 +119,8 @@ joined-exactly d e k m a b n =
           simp (
             low-part m (mark e) (q .less),
             high-part m (mark e) (q .less),
-            accepted d m (p .inside) (q .less),
+            p .inside,
+            q .within,
             ne-eqb (mark e) (mark d) (λ f. x (same-mark d e (indexAt d) (indexAt e) (omega (arith, q .low)) (p .is) (q .is) n f)),
           );
     }

@@ -1,11 +1,11 @@
 -- Service (c): an instant split into a day word and a time word, and the two joined again.
 use Prim.Native.Nat.{ℕ, _+_, _-_, _*_, _/_, _%_}
-use mathlib.Core.Bool.{cond}
+use mathlib.Core.Bool.{not}
+use mathlib.Core.List.{List, [], _∷_, _++_}
 use lib.Dec.{eqb}
 use lib.IntN.{ℤ, pos, negsuc}
-use Rattle.calendar.specs.declared.Acceptance.{Acceptance}
-use Rattle.calendar.specs.declared.Acceptance.the-variants.{Accepted, NotAccepted}
-use Rattle.calendar.specs.Instants.{instant, acceptance}
+use Rattle.calendar.specs.Refusals.{Case, case, refusedOr}
+use Rattle.calendar.specs.Instants.{instant, instantCases}
 use Rattle.clock.specs.declared.ClockWords.{ClockWords}
 use Rattle.clock.specs.declared.SplitAnswer.{SplitAnswer}
 use Rattle.clock.specs.declared.SplitAnswer.the-variants.{Split, NoSplit}
@@ -28,21 +28,17 @@ timeWord d m = m + mark d * markUnit
 abbrev pub words : ℤ → ℕ → ClockWords
 words d t = record { day = d; time = t }
 
--- the words of an instant, or its refusal: 8, 9
-abbrev pub splitBy : Acceptance → ℤ → ℕ → SplitAnswer
-splitBy (Accepted i) d m = Split (words d (timeWord d m))
-splitBy (NotAccepted n) d m = NoSplit n
-
+-- the words of an instant, or its refusal
 unfoldable pub splitOf : ℤ → ℕ → SplitAnswer
-splitOf d m = splitBy (acceptance d m) d m
+splitOf d m = refusedOr NoSplit (instantCases d m) (Split (words d (timeWord d m)))
 
--- the instant of a day word d and a time word t, or its refusal: 8, 9, then 10 if the marks differ
-abbrev pub joinBy : Acceptance → ℤ → ℕ → JoinAnswer
-joinBy (Accepted i) d t = cond (eqb (t / markUnit) (mark d)) (Joined (instant d (t % markUnit))) (NoJoin 10)
-joinBy (NotAccepted n) d t = NoJoin n
+-- the refusals of a day word d and a time word t: of the instant, and 10 if the marks differ
+abbrev pub joinCases : ℤ → ℕ → List Case
+joinCases d t = instantCases d (t % markUnit) ++ (case 10 (not (eqb (t / markUnit) (mark d))) ∷ [])
 
+-- the instant of the two words, or its refusal
 unfoldable pub joinOf : ℤ → ℕ → JoinAnswer
-joinOf d t = joinBy (acceptance d (t % markUnit)) d t
+joinOf d t = refusedOr NoJoin (joinCases d t) (Joined (instant d (t % markUnit)))
 
 -- the numbers that the exported calls give for an answer
 abbrev pub dayWordOf : SplitAnswer → ℤ

@@ -1,18 +1,13 @@
 -- What is promised of the answers: where they are given and how near they are, the refusals, and that no constant would do.
 -- Assumes nothing.
-use mathlib.Core.Path.{_≡_, refl, ap}
-use mathlib.Core.Bool.{Bool, true, false, cond}
-use mathlib.Core.List.{List, [], _∷_}
+use mathlib.Core.Path.{_≡_, refl, sym}
+use mathlib.Core.List.{List}
 use Prim.Native.Nat.{ℕ, _+_, _*_, _≤_, _<_}
 use native.Mathlib.Omega.{arith}
-use lib.Dec.{T, leb, ltb, ltb→lt}
+use lib.Dec.{T, ltb, ltb→lt}
 use lib.IntN.{ℤ, pos, _-ℤ_, _*ℤ_, natAbs}
-use Rattle.calendar.specs.Limits.{dayMicros}
-use Rattle.calendar.specs.Refusals.{case, firstRefusal}
 use Rattle.calendar.specs.Instants.{outside, indexAt, acceptance, IsAccepted}
-use Rattle.calendar.specs.declared.Acceptance.{Acceptance}
-use Rattle.calendar.specs.declared.Acceptance.the-variants.{Accepted, NotAccepted}
-use Rattle.calendar.proofs.Index.{accepted-at}
+use Rattle.calendar.proofs.Index.{accepted-at, answered-too}
 use Rattle.algebra.specs.Integers.{+_}
 use Rattle.algebra.specs.Near.{Near}
 use Rattle.algebra.proofs.Ring.{end, _▸_, ring, quote}
@@ -22,10 +17,10 @@ use Rattle.sine.specs.Ours.{nested, sineQuarter, quarterTurn, ourSine, ourCosin
 use Rattle.arguments.specs.Exact.{sinceJ2000}
 use Rattle.nutation.specs.declared.Row.{Row}
 use Rattle.nutation.specs.declared.Offsets.{Offsets}
-use Rattle.nutation.specs.declared.NutationAnswer.the-variants.{Given}
+use Rattle.nutation.specs.declared.NutationAnswer.the-variants.{Given, Refused}
 use Rattle.nutation.specs.Table.{AcceptedTable, builtIn}
 use Rattle.nutation.specs.Exact.{rowDate, started, place, span, exactX, exactY, exactDen}
-use Rattle.nutation.specs.Ours.{momentOf, ourAngle, factor, mixed, amplitude, offset, offsetsAt, ourOffsets, nutationBy, nutationOf, refusalOf}
+use Rattle.nutation.specs.Ours.{momentOf, ourAngle, factor, mixed, amplitude, offset, offsetsAt, ourOffsets, nutationWith, nutationOf}
 use Rattle.nutation.specs.Claims.{distance, Within, OffsetsNear}
 use Rattle.nutation.proofs.Accepted.{builtIn-accepted}
 use Rattle.nutation.proofs.Distance.{offsets-near}
@@ -38,25 +33,13 @@ near-here rows t d m a = let k = accepted-at d m (indexAt d) a in offsets-near r
 -- PROMISE. With any accepted table the answer at every accepted instant is given, both offsets within 2 nanoarcseconds of the exact ones and the
 -- uncertainty exact.
 pub answer-near : (rows : List Row) → AcceptedTable rows → (d : ℤ) (m : ℕ) → IsAccepted d m
-    → (o : Offsets) × (nutationBy (acceptance d m) rows (sinceJ2000 d m) ≡ Given o) × OffsetsNear rows (sinceJ2000 d m) o
-answer-near rows t d m a = (ourOffsets rows (sinceJ2000 d m), ap (λ (q : Acceptance). nutationBy q rows (sinceJ2000 d m)) a, near-here rows t d m a)
+    → (o : Offsets) × (nutationWith rows d m ≡ Given o) × OffsetsNear rows (sinceJ2000 d m) o
+answer-near rows t d m a = (ourOffsets rows (sinceJ2000 d m), sym (answered-too Refused _ d m a), near-here rows t d m a)
 
 -- PROMISE. So is the service's answer, of the built-in rows.
 pub nutation-near : (d : ℤ) (m : ℕ) → IsAccepted d m → (o : Offsets) × (nutationOf d m ≡ Given o) × OffsetsNear builtIn (sinceJ2000 d m) o
 unfolding nutationOf
 nutation-near d m a = answer-near builtIn builtIn-accepted d m a
-
--- ---- refusals
-
-refusal-by : (a b : Bool) (i : ℕ) (n : ℤ) → refusalOf (nutationBy (cond a (NotAccepted 8) (cond b (NotAccepted 9) (Accepted i))) builtIn n) ≡ firstRefusal (case 8 a ∷ case 9 b ∷ [])
-refusal-by true b i n = refl
-refusal-by false true i n = refl
-refusal-by false false i n = refl
-
--- PROMISE. The offsets are refused by the first of 8 and 9 that applies, and by nothing else.
-pub nutation-refusal : (d : ℤ) (m : ℕ) → refusalOf (nutationOf d m) ≡ firstRefusal (case 8 (outside d) ∷ case 9 (leb dayMicros m) ∷ [])
-unfolding nutationOf acceptance
-nutation-refusal d m = refusal-by (outside d) (leb dayMicros m) _ (sinceJ2000 d m)
 
 -- ---- no constant
 

@@ -5,9 +5,8 @@ use mathlib.Core.List.{List}
 use Prim.Native.Nat.{ℕ, _*_, _-_, _/_, _%_, _^_}
 use lib.IntN.{ℤ, pos, negℤ, _+ℤ_, _-ℤ_, _*ℤ_, natAbs}
 use lib.Signed.{shrZ}
-use Rattle.calendar.specs.Instants.{acceptance}
-use Rattle.calendar.specs.declared.Acceptance.{Acceptance}
-use Rattle.calendar.specs.declared.Acceptance.the-variants.{Accepted, NotAccepted}
+use Rattle.calendar.specs.Refusals.{refusedOr}
+use Rattle.calendar.specs.Instants.{instantCases}
 use Rattle.algebra.specs.Integers.{+_}
 use Rattle.sine.specs.Ours.{ourSine, ourCosine}
 use Rattle.arguments.specs.Exact.{sinceJ2000, century}
@@ -80,12 +79,11 @@ ourOffsets rows n = offsetsAt (place rows n) n
 
 -- ---- the answer at an instant
 
-abbrev pub nutationBy : Acceptance → List Row → ℤ → NutationAnswer
-nutationBy (Accepted i) rows n = Given (ourOffsets rows n)
-nutationBy (NotAccepted r) rows n = Refused r
+abbrev pub nutationWith : List Row → ℤ → ℕ → NutationAnswer
+nutationWith rows d m = refusedOr Refused (instantCases d m) (Given (ourOffsets rows (sinceJ2000 d m)))
 
 unfoldable pub nutationOf : ℤ → ℕ → NutationAnswer
-nutationOf d m = nutationBy (acceptance d m) builtIn (sinceJ2000 d m)
+nutationOf d m = nutationWith builtIn d m
 
 -- the numbers that the exported calls give for an answer: zeros beside a refusal, and 0 for success
 abbrev pub xOf : NutationAnswer → ℤ

@@ -1,43 +1,90 @@
 -- Demand 1 holds. Assumes nothing.
 use mathlib.Core.Path.{_≡_, refl}
 use Prim.Native.Nat.{ℕ}
-use lib.IntN.{pos}
-use Rattle.calendar.specs.Dates.{dayNumberOf, dayRefusalOf, yearOf, monthOf, dayOfMonthOf, dateRefusalOf}
-use Rattle.calendar.specs.Times.{instantDayOf, instantMicrosOf, instantRefusalOf}
+use mathlib.Core.List.{List, _++_}
+use lib.IntN.{ℤ, pos}
+use Rattle.calendar.specs.Refusals.{firstRefusal}
+use Rattle.calendar.specs.Instants.{outside, instantCases}
+use Rattle.calendar.proofs.FirstRefusal.{handed-on}
+use Rattle.calendar.specs.Dates.{dateCases, dayOf, dayCases, dateOf, dayNumberOf, dayRefusalOf, yearOf, monthOf, dayOfMonthOf, dateRefusalOf}
+use Rattle.calendar.specs.Times.{timeCases, instantOf, instantDayOf, instantMicrosOf, instantRefusalOf}
 use Rattle.calendar.specs.declared.DayAnswer.{DayAnswer}
 use Rattle.calendar.specs.declared.DayAnswer.the-variants.{Day, NoDay}
 use Rattle.calendar.specs.declared.DateAnswer.{DateAnswer}
 use Rattle.calendar.specs.declared.DateAnswer.the-variants.{OnDate, NoDate}
 use Rattle.calendar.specs.declared.InstantAnswer.{InstantAnswer}
 use Rattle.calendar.specs.declared.InstantAnswer.the-variants.{AtInstant, NoInstant}
-use Rattle.calendar.proofs.Refusals.{date-refusal, day-refusal, date-and-time-refusal}
-use Rattle.clock.specs.Words.{dayWordOf, timeWordOf, splitRefusalOf, joinedDayOf, joinedMicrosOf, joinRefusalOf}
+use Rattle.clock.specs.Words.{splitOf, joinCases, joinOf, dayWordOf, timeWordOf, splitRefusalOf, joinedDayOf, joinedMicrosOf, joinRefusalOf}
 use Rattle.clock.specs.declared.SplitAnswer.{SplitAnswer}
 use Rattle.clock.specs.declared.SplitAnswer.the-variants.{Split, NoSplit}
 use Rattle.clock.specs.declared.JoinAnswer.{JoinAnswer}
 use Rattle.clock.specs.declared.JoinAnswer.the-variants.{Joined, NoJoin}
-use Rattle.clock.proofs.Refusals.{split-refusal, join-refusal}
 use Rattle.tide.specs.Binary64.{zero64}
 use Rattle.tide.specs.Tidal as tide
+use Rattle.tide.specs.declared.Doodson.{Doodson}
 use Rattle.tide.specs.declared.Answer as tideAnswer
 use Rattle.tide.specs.declared.Answer.the-variants as tideCase
-use Rattle.tide.proofs.Promises.{tide-refusal}
 use Rattle.zonal.specs.Ours as zonal
 use Rattle.zonal.specs.declared.ZonalAnswer.{ZonalAnswer}
 use Rattle.zonal.specs.declared.ZonalAnswer.the-variants as zonalCase
-use Rattle.zonal.proofs.Promises.{zonal-refusal}
 use Rattle.nutation.specs.Ours as nutation
 use Rattle.nutation.specs.declared.NutationAnswer.{NutationAnswer}
 use Rattle.nutation.specs.declared.NutationAnswer.the-variants as nutationCase
-use Rattle.nutation.proofs.Promises.{nutation-refusal}
-use Rattle.record.specs.Records.{recordDayOf, recordMicrosOf, recordUt1Of, recordLodOf, recordRateOf, readRefusalOf}
+use Rattle.record.specs.Records.{writeCases, writeRefusal, readCases, readOf, recordDayOf, recordMicrosOf, recordUt1Of, recordLodOf, recordRateOf, readRefusalOf}
 use Rattle.record.specs.declared.ReadAnswer.{ReadAnswer}
 use Rattle.record.specs.declared.ReadAnswer.the-variants.{IsRecord, NoRecord}
-use Rattle.record.proofs.Refusals.{write-refusal, read-refusal}
 use Rattle.record.proofs.Kept.{write-keeps}
-use Rattle.run.proofs.Refusals.{run-refusal}
+use Rattle.run.specs.Run.{runCases, runRefusal}
 use Rattle.run.proofs.Records.{refused-unchanged}
 use Rattle.promises.specs.AnyInput.{ZeroBeside, AnyInputIsAnswered}
+
+-- ---- the refusals: a definition is the first case of its own list that applies, and that list computes to the one written out
+
+date-to-day : (y m d : ℕ) → dayRefusalOf (dayOf y m d) ≡ firstRefusal (dateCases y m d)
+unfolding dayOf
+date-to-day y m d = handed-on NoDay dayRefusalOf (λ n. refl) (dateCases y m d) _
+
+day-to-date : (z : ℤ) → dateRefusalOf (dateOf z) ≡ firstRefusal (dayCases z)
+unfolding dateOf
+day-to-date z = handed-on NoDate dateRefusalOf (λ n. refl) (dayCases z) _
+
+date-and-time : (y m d h n s u : ℕ) → instantRefusalOf (instantOf y m d h n s u) ≡ firstRefusal (dateCases y m d ++ timeCases h n s u)
+unfolding instantOf
+date-and-time y m d h n s u = handed-on NoInstant instantRefusalOf (λ n. refl) (dateCases y m d ++ timeCases h n s u) _
+
+split : (d : ℤ) (m : ℕ) → splitRefusalOf (splitOf d m) ≡ firstRefusal (instantCases d m)
+unfolding splitOf
+split d m = handed-on NoSplit splitRefusalOf (λ n. refl) (instantCases d m) _
+
+join : (d : ℤ) (t : ℕ) → joinRefusalOf (joinOf d t) ≡ firstRefusal (joinCases d t)
+unfolding joinOf
+join d t = handed-on NoJoin joinRefusalOf (λ n. refl) (joinCases d t) _
+
+phase : (d : ℤ) (m : ℕ) (k : Doodson) → tide.refusalOf (tide.tideOf d m k) ≡ firstRefusal (tide.tideCases d m k)
+unfolding tide.tideOf
+phase d m k = handed-on tideCase.Refused tide.refusalOf (λ n. refl) (tide.tideCases d m k) _
+
+corrections : (d : ℤ) (m : ℕ) → zonal.refusalOf (zonal.zonalOf d m) ≡ firstRefusal (instantCases d m)
+unfolding zonal.zonalOf
+corrections d m = handed-on zonalCase.Refused zonal.refusalOf (λ n. refl) (instantCases d m) _
+
+offsets : (d : ℤ) (m : ℕ) → nutation.refusalOf (nutation.nutationOf d m) ≡ firstRefusal (instantCases d m)
+unfolding nutation.nutationOf
+offsets d m = handed-on nutationCase.Refused nutation.refusalOf (λ n. refl) (instantCases d m) _
+
+write : (d : ℤ) (m n : ℕ) → writeRefusal d m n ≡ firstRefusal (writeCases d m n)
+unfolding writeRefusal
+write d m n = refl
+
+read : (s : List ℕ) → readRefusalOf (readOf s) ≡ firstRefusal (readCases s)
+unfolding readOf
+read s = handed-on NoRecord readRefusalOf (λ n. refl) (readCases s) _
+
+run : (d : ℤ) (m count step n : ℕ) → runRefusal d m count step n ≡ firstRefusal (runCases d m count step n)
+unfolding runRefusal
+run d m count step n = refl
+
+-- ---- zeros
 
 -- beside a success nothing is claimed
 given : {A : Type 0} → (_≡_ {A = ℕ} 0 0 → ⊥) → A
@@ -88,27 +135,28 @@ read-zero (NoRecord n) = (λ _. refl, λ _. refl, λ _. refl, λ _. refl, λ _. 
 
 -- PROMISE. Demand 1: any input is answered.
 pub any-input-is-answered : AnyInputIsAnswered
+unfolding outside
 any-input-is-answered = record {
-  date-to-day = date-refusal;
+  date-to-day = date-to-day;
   date-to-day-zero = day-zero;
-  day-to-date = day-refusal;
+  day-to-date = day-to-date;
   day-to-date-zero = date-zero;
-  date-and-time = date-and-time-refusal;
+  date-and-time = date-and-time;
   date-and-time-zero = instant-zero;
-  split = split-refusal;
+  split = split;
   split-zero = split-zero;
-  join = join-refusal;
+  join = join;
   join-zero = join-zero;
-  phase = tide-refusal;
+  phase = phase;
   phase-zero = tide-zero;
-  corrections = zonal-refusal;
+  corrections = corrections;
   corrections-zero = zonal-zero;
-  offsets = nutation-refusal;
+  offsets = offsets;
   offsets-zero = nutation-zero;
-  record-write = write-refusal;
+  record-write = write;
   record-write-keeps = λ d m ut1 lod rate old. write-keeps d m ut1 lod rate old .all;
-  record-read = read-refusal;
+  record-read = read;
   record-read-zero = read-zero;
-  run-write = run-refusal;
+  run-write = run;
   run-write-keeps = refused-unchanged;
 }

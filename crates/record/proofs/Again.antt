@@ -10,13 +10,16 @@ use lib.Seq.{take-add}
 use Rattle.bigendian.specs.Numbers.{Bytes, bytesOf, numberAt, wordSum, twos32, signed32}
 use Rattle.bigendian.proofs.Numbers.{number-below, bytes-number, sum-next, sum-take}
 use Rattle.bigendian.proofs.Signs.{signed-bits}
+use Rattle.calendar.proofs.Index.{accepted}
+use Rattle.clock.specs.declared.ClockWords.{ClockWords}
 use Rattle.clock.specs.declared.SplitAnswer.the-variants.{Split}
 use Rattle.clock.specs.Words.{splitOf, words}
-use Rattle.clock.proofs.Words.{join-then-split}
+use Rattle.clock.proofs.Words.{was-split, join-then-split}
 use Rattle.record.specs.declared.Record.{Record}
 use Rattle.record.specs.declared.ReadAnswer.the-variants.{IsRecord}
 use Rattle.record.specs.Format.{recordLength, version, fieldBytes, negated, recordBytes}
 use Rattle.record.specs.Records.{writeRefusal, written, readOf}
+use Rattle.record.proofs.Written.{written-is}
 use Rattle.record.proofs.Forms.{Formed, WasRead, was-read}
 
 least : (x n : ℕ) → (x + n) % 65536 ≡ 0 → n < 65536 → negated x ≡ n
@@ -59,10 +62,14 @@ module _ (s : List ℕ) (b : Bytes s) (f : Formed s) where
 -- PROMISE. Thirty bytes that read as a record, written again into any thirty bytes or more, are the same thirty bytes.
 pub written-again : (s : List ℕ) (r : Record) (old : List ℕ) → Bytes s → readOf s ≡ IsRecord r → recordLength ≤ length old
     → (writeRefusal (r .day) (r .micros) (length old) ≡ 0) × (written (r .day) (r .micros) (r .ut1) (r .lod) (r .rate) old ≡ take recordLength s ++ drop recordLength old)
-unfolding writeRefusal written
+unfolding writeRefusal
 written-again s r old b e h =
     let w : WasRead s r = was-read s r e in
     let p : splitOf (r .day) (r .micros) ≡ Split (words (pos (numberAt s 4 4)) (numberAt s 8 8)) =
     ap (λ (x : Record). splitOf (x .day) (x .micros)) (w .is) ∙ join-then-split _ _ (w .instant) (w .join) in
     let q : recordBytes (words (pos (numberAt s 4 4)) (numberAt s 8 8)) (r .ut1) (r .lod) (r .rate) ≡ take 30 s = rw (w .is) (bytes-are s b (w .form)) in
-    simp (p, le-ltb (length old) 30 h) (refl, ap (λ (l : List ℕ). l ++ drop 30 old) q)
+    let k = was-split _ _ _ p in (
+      simp (k .accepted .inside, k .accepted .within, le-ltb (length old) 30 h),
+      written-is (r .day) (r .micros) _ _ _ old (accepted _ _ (k .accepted .inside) (k .accepted .less)) h
+          ∙ ap (λ (l : List ℕ). l ++ drop 30 old) (ap (λ (x : ClockWords). recordBytes x (r .ut1) (r .lod) (r .rate)) (sym (k .is)) ∙ q),
+    )

@@ -1,22 +1,23 @@
 -- What the form of bytes tells, and what reading them tells. Assumes nothing.
 use Prim.Native.Nat.{ℕ, _%_, _≤_}
-use mathlib.Core.Path.{_≡_, refl, sym}
-use mathlib.Core.Bool.{Bool, true, false, cond, not}
+use mathlib.Core.Path.{_≡_, refl, ap, _∙_}
+use mathlib.Core.Bool.{Bool, true, false, not}
 use mathlib.Core.List.{List}
-use native.Mathlib.Omega.{arith}
 use borrow.Author.Tests.{ltb-false, eqb-true, le-ltb, eq-eqb}
-use lib.Dec.{eqb, ltb}
 use lib.IntN.{ℤ, pos}
 use lib.ListN.{length}
 use Rattle.bigendian.specs.Numbers.{numberAt, wordSum}
 use Rattle.calendar.specs.declared.Instant.{Instant}
-use Rattle.clock.specs.declared.JoinAnswer.{JoinAnswer}
+use Rattle.calendar.specs.Refusals.{refusedOr}
+use Rattle.calendar.specs.Instants.{instant}
+use Rattle.calendar.proofs.Cases.{no-case}
+use Rattle.calendar.proofs.FirstRefusal.{NoneApplies, answered-none, none-answered, refused-alike, first-none}
 use Rattle.clock.specs.declared.JoinAnswer.the-variants.{Joined, NoJoin}
-use Rattle.clock.specs.Words.{joinOf}
+use Rattle.clock.specs.Words.{markUnit, joinCases, joinOf}
 use Rattle.record.specs.declared.Record.{Record}
 use Rattle.record.specs.declared.ReadAnswer.the-variants.{IsRecord, NoRecord}
 use Rattle.record.specs.Format.{recordLength, version}
-use Rattle.record.specs.Records.{formRefusal, recordOf, readBy, readOf}
+use Rattle.record.specs.Records.{formCases, formRefusal, readCases, recordOf, readOf}
 
 -- bytes of the right form
 pub record Formed (s : List ℕ) : Type 0 where
@@ -26,19 +27,22 @@ pub record Formed (s : List ℕ) : Type 0 where
   pub none : numberAt s 3 1 ≡ 0
   pub zero : wordSum s 15 % 65536 ≡ 0
 
+not-false : (b : Bool) → not b ≡ false → b ≡ true
+not-false true e = refl
+not-false false e = no-case (cc)
+
+none-formed : (s : List ℕ) → NoneApplies (formCases s) → Formed s
+none-formed s h = record {
+  long = ltb-false _ _ (h .0);
+  version = eqb-true _ _ (not-false _ (h .1 .0));
+  size = eqb-true _ _ (not-false _ (h .1 .1 .0));
+  none = eqb-true _ _ (not-false _ (h .1 .1 .1 .0));
+  zero = eqb-true _ _ (not-false _ (h .1 .1 .1 .1 .0));
+}
+
 pub formed : (s : List ℕ) → formRefusal s ≡ 0 → Formed s
 unfolding formRefusal
-formed s e = by (ltb (length s) 30) (eqb (numberAt s 2 1) 1) (eqb (numberAt s 0 2) 30) (eqb (numberAt s 3 1) 0) (eqb (wordSum s 15 % 65536) 0) refl refl refl refl refl e
-  where
-    by : (a b c d f : Bool) → ltb (length s) 30 ≡ a → eqb (numberAt s 2 1) 1 ≡ b → eqb (numberAt s 0 2) 30 ≡ c → eqb (numberAt s 3 1) 0 ≡ d → eqb (wordSum s 15 % 65536) 0 ≡ f
-        → _≡_ {A = ℕ} (cond a 12 (cond (not b) 14 (cond (not c) 13 (cond (not d) 15 (cond (not f) 16 0))))) 0 → Formed s
-    by true b c d f p q r t u e = let v : ⊥ = omega arith in absurd v
-    by false false c d f p q r t u e = let v : ⊥ = omega arith in absurd v
-    by false true false d f p q r t u e = let v : ⊥ = omega arith in absurd v
-    by false true true false f p q r t u e = let v : ⊥ = omega arith in absurd v
-    by false true true true false p q r t u e = let v : ⊥ = omega arith in absurd v
-    by false true true true true p q r t u e =
-        record { long = ltb-false _ _ p; version = eqb-true _ _ q; size = eqb-true _ _ r; none = eqb-true _ _ t; zero = eqb-true _ _ u }
+formed s e = none-formed s (first-none (formCases s) tt e)
 
 pub form-right : (s : List ℕ) → Formed s → formRefusal s ≡ 0
 unfolding formRefusal
@@ -53,13 +57,43 @@ pub record WasRead (s : List ℕ) (r : Record) : Type 0 where
   pub is : r ≡ recordOf instant s
 
 pub was-read : (s : List ℕ) (r : Record) → readOf s ≡ IsRecord r → WasRead s r
-unfolding readOf
-was-read s r e = by (eqb (formRefusal s) 0) (joinOf (pos (numberAt s 4 4)) (numberAt s 8 8)) refl refl e
-  where
-    by : (a : Bool) (j : JoinAnswer) → eqb (formRefusal s) 0 ≡ a → joinOf (pos (numberAt s 4 4)) (numberAt s 8 8) ≡ j → cond a (readBy j s) (NoRecord (formRefusal s)) ≡ IsRecord r → WasRead s r
-    by false j p q e = let x : _≡_ {A = ℕ} 0 1 = cc in let v : ⊥ = omega arith in absurd v
-    by true (NoJoin k) p q e = let x : _≡_ {A = ℕ} 0 1 = cc in let v : ⊥ = omega arith in absurd v
-    by true (Joined t) p q e = let f : recordOf t s ≡ r = cc in record { form = formed s (eqb-true _ _ p); instant = t; join = q; is = sym f }
+unfolding readOf joinOf
+was-read s r e =
+    let d = pos (numberAt s 4 4) in
+    let t = numberAt s 8 8 in
+    let q = answered-none NoRecord (readCases s) (IsRecord (recordOf (instant d (t % markUnit)) s)) (IsRecord r) (λ n p. no-case (cc)) e in
+    let n = q .0 in
+    let g : IsRecord (recordOf (instant d (t % markUnit)) s) ≡ IsRecord r = q .1 in
+    record {
+      form = none-formed s (n .0, (n .1 .0, (n .1 .1 .0, (n .1 .1 .1 .0, (n .1 .1 .1 .1 .0, tt)))));
+      instant = instant d (t % markUnit);
+      join = none-answered NoJoin (joinCases d t) _ (n .1 .1 .1 .1 .1);
+      is = cc;
+    }
+
+-- what bytes of the right form give: the refusal of the clock words, or a record
+module _ (s : List ℕ) (e : formRefusal s ≡ 0) where
+  abbrev day : ℤ
+  day = pos (numberAt s 4 4)
+
+  abbrev time : ℕ
+  time = numberAt s 8 8
+
+  words-read : readOf s ≡ refusedOr NoRecord (joinCases day time) (IsRecord (recordOf (instant day (time % markUnit)) s))
+  unfolding readOf formRefusal
+  words-read = none-answered NoRecord (formCases s) _ (first-none (formCases s) tt e)
+
+  pub read-refused : (n : ℕ) → joinOf day time ≡ NoJoin n → readOf s ≡ NoRecord n
+  unfolding joinOf
+  read-refused n j = words-read ∙ refused-alike NoJoin NoRecord (joinCases day time) _ _ n (λ k p. cc) (λ p. no-case (cc)) j
+
+  pub read-joined : (i : Instant) → joinOf day time ≡ Joined i → readOf s ≡ IsRecord (recordOf i s)
+  unfolding joinOf
+  read-joined i j =
+      let q = answered-none NoJoin (joinCases day time) (Joined (instant day (time % markUnit))) (Joined i) (λ n p. no-case (cc)) j in
+      let g : Joined (instant day (time % markUnit)) ≡ Joined i = q .1 in
+      let f : instant day (time % markUnit) ≡ i = cc in
+      words-read ∙ (none-answered NoRecord (joinCases day time) _ (q .0) ∙ ap (λ (x : Instant). IsRecord (recordOf x s)) f)
 
 -- records with equal numbers
 pub alike : (d : ℤ) (m : ℕ) {x x' y y' u u' : ℤ} → x ≡ x' → y ≡ y' → u ≡ u'

@@ -4,5 +4,4 @@ pub mod Written
 pub mod Round
 pub mod Again
 pub mod Kept
-pub mod Refusals
 pub mod Changed

@@ -12,7 +12,7 @@ use mir.Val.{SFits}
 use Rattle.bigendian.specs.Numbers.{bytesOf, numberAt, wordSum, twos32, signed32}
 use Rattle.bigendian.proofs.Numbers.{number-bytes, sum-next, sum-take}
 use Rattle.bigendian.proofs.Signs.{bits-small, bits-signed}
-use Rattle.calendar.specs.Instants.{indexAt, IsAccepted}
+use Rattle.calendar.specs.Instants.{instant, indexAt, IsAccepted}
 use Rattle.calendar.proofs.Index.{AcceptedAt, accepted-at}
 use Rattle.clock.specs.declared.ClockWords.{ClockWords}
 use Rattle.clock.specs.Words.{mark, timeWord, words}
@@ -21,7 +21,7 @@ use Rattle.record.specs.declared.ReadAnswer.the-variants.{IsRecord}
 use Rattle.record.specs.Format.{recordLength, fieldBytes, negated, recordBytes}
 use Rattle.record.specs.Records.{written, readOf}
 use Rattle.record.proofs.Written.{written-is}
-use Rattle.record.proofs.Forms.{Formed, form-right, alike}
+use Rattle.record.proofs.Forms.{Formed, form-right, read-joined, alike}
 
 -- the words of a record add to 0, wrapped
 zero-sum : (x : ℕ) → (x + negated x % 65536) % 65536 ≡ 0
@@ -71,7 +71,7 @@ mark-small (negsuc n) = omega arith
 -- PROMISE. The bytes of a record of an accepted instant read as that record, whatever follows them.
 pub read-back : (d : ℤ) (m : ℕ) (ut1 lod rate : ℤ) (rest : List ℕ) → IsAccepted d m → SFits w32 ut1 → SFits w32 lod → SFits w32 rate
     → readOf (recordBytes (words d (timeWord d m)) ut1 lod rate ++ rest) ≡ IsRecord (record { day = d; micros = m; ut1 = ut1; lod = lod; rate = rate })
-unfolding readOf recordBytes
+unfolding recordBytes
 read-back d m ut1 lod rate rest a f g h =
     let t : AcceptedAt d m (indexAt d) = accepted-at d m (indexAt d) a in
     let e : d ≡ pos (indexAt d - 94553) = day-bits d m (indexAt d) t in
@@ -79,14 +79,8 @@ read-back d m ut1 lod rate rest a f g h =
     let q : pos (twos32 d) ≡ d = rw e refl in
     let l : timeWord d m < 18446744073709551616 = omega (arith, t .less, mark-small d) in
     let w : ClockWords = words d (timeWord d m) in
-    simp (
-      form-right _ (formed-written w ut1 lod rate rest),
-      day-back w ut1 lod rate rest p,
-      time-back w ut1 lod rate rest l,
-      q,
-      split-then-join d m a,
-    )
-    (alike d m (ut1-back w ut1 lod rate rest f) (lod-back w ut1 lod rate rest g) (rate-back w ut1 lod rate rest h))
+    read-joined (S w ut1 lod rate rest) (form-right _ (formed-written w ut1 lod rate rest)) (instant d m) (rw (day-back w ut1 lod rate rest p, time-back w ut1 lod rate rest l, q) (split-then-join d m a))
+    ∙ (alike d m (ut1-back w ut1 lod rate rest f) (lod-back w ut1 lod rate rest g) (rate-back w ut1 lod rate rest h))
 
 -- PROMISE. A record written into thirty bytes or more reads back as the instant and the three numbers, whatever stood there.
 pub read-written : (d : ℤ) (m : ℕ) (ut1 lod rate : ℤ) (old : List ℕ) → IsAccepted d m → recordLength ≤ length old → SFits w32 ut1 → SFits w32 lod → SFits w32 rate

@@ -1,6 +1,6 @@
 -- What writing gives, case by case. Assumes nothing.
 use Prim.Native.Nat.{ℕ, suc, _-_, _≤_, _<_}
-use mathlib.Core.Path.{_≡_, refl, ap}
+use mathlib.Core.Path.{_≡_, refl, ap, sym}
 use mathlib.Core.Bool.{Bool, true, false, cond}
 use mathlib.Core.List.{List, _++_}
 use native.Mathlib.Omega.{arith}
@@ -10,28 +10,35 @@ use lib.IntN.{ℤ, pos, negsuc, _-ℤ_}
 use lib.ListN.{length, take, drop}
 use mir.Syntax.{w32}
 use mir.Val.{SFits}
-use Rattle.calendar.specs.Instants.{indexAt, IsAccepted}
+use Rattle.calendar.specs.Refusals.{refusedOr}
+use Rattle.calendar.specs.Instants.{indexAt, instantCases, IsAccepted}
+use Rattle.calendar.proofs.Cases.{no-case}
+use Rattle.calendar.proofs.FirstRefusal.{refused-alike}
+use Rattle.calendar.proofs.Index.{accepted-at}
 use Rattle.clock.specs.declared.ClockWords.{ClockWords}
 use Rattle.clock.specs.declared.SplitAnswer.the-variants.{Split, NoSplit}
 use Rattle.clock.specs.Words.{timeWord, words, splitOf}
-use Rattle.clock.proofs.Words.{WasSplit, was-split, split-accepted}
+use Rattle.clock.proofs.Words.{WasSplit, was-split}
 use Rattle.record.specs.Format.{recordLength, recordBytes}
 use Rattle.record.specs.Records.{writeRefusal, written}
 
 module _ (d : ℤ) (m : ℕ) (ut1 lod rate : ℤ) (old : List ℕ) where
   pub refused : (n : ℕ) → splitOf d m ≡ NoSplit n → (n ≡ writeRefusal d m (length old)) × (old ≡ written d m ut1 lod rate old)
-  unfolding writeRefusal written
-  refused n e = rw e (refl, refl)
+  unfolding splitOf writeRefusal written
+  refused n e = (by (λ k. k) _, by (λ _. old) _)
+    where
+      by : {A : Type 0} (refuse : ℕ → A) (a : A) → refuse n ≡ refusedOr refuse (instantCases d m) a
+      by refuse a = sym (refused-alike NoSplit refuse (instantCases d m) _ a n (λ k p. cc) (λ p. no-case (cc)) e)
 
   pub short : (w : ClockWords) → splitOf d m ≡ Split w → length old < recordLength → (12 ≡ writeRefusal d m (length old)) × (old ≡ written d m ut1 lod rate old)
   unfolding writeRefusal written
-  short w e h = simp (e, lt-ltb (length old) 30 h) (refl, refl)
+  short w e h = let k = was-split d m w e .accepted in simp (k .inside, k .within, lt-ltb (length old) 30 h) (refl, refl)
 
   -- the first thirty of l are copied over the front of the buffer
   pub done : (w : ClockWords) (l : List ℕ) → splitOf d m ≡ Split w → recordLength ≤ length old → l ≡ recordBytes w ut1 lod rate
       → (0 ≡ writeRefusal d m (length old)) × (take (length (take 30 l)) (take 30 l) ++ drop (length (take 30 l)) old ≡ written d m ut1 lod rate old)
   unfolding writeRefusal written recordBytes
-  done w l e h q = simp (e, q, le-ltb (length old) 30 h) (refl, refl)
+  done w l e h q = let k = was-split d m w e in simp (k .accepted .inside, k .accepted .within, q, k .is, le-ltb (length old) 30 h) (refl, refl)
 
 pub record-length : (w : ClockWords) (ut1 lod rate : ℤ) → length (recordBytes w ut1 lod rate) ≡ recordLength
 unfolding recordBytes
@@ -44,7 +51,7 @@ thirty w ut1 lod rate l q = ap (λ (k : List ℕ). length (take 30 k)) q
 -- the buffer after a record of an accepted instant
 pub written-is : (d : ℤ) (m : ℕ) (ut1 lod rate : ℤ) (old : List ℕ) → IsAccepted d m → recordLength ≤ length old → written d m ut1 lod rate old ≡ recordBytes (words d (timeWord d m)) ut1 lod rate ++ drop recordLength old
 unfolding written
-written-is d m ut1 lod rate old a h = simp (split-accepted d m a, le-ltb (length old) 30 h)
+written-is d m ut1 lod rate old a h = let k = accepted-at d m _ a in simp (k .inside, k .within, le-ltb (length old) 30 h)
 
 -- the day word of an accepted instant, -94553 and later, fits 32 bits
 day-word : (i : ℕ) → i < 2147483648 → SFits w32 (pos i -ℤ pos 94553)

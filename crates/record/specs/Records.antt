@@ -1,17 +1,15 @@
 -- Service (g): one record written, one read.
 use Prim.Native.Nat.{ℕ, _%_}
-use mathlib.Core.Bool.{cond, not}
-use mathlib.Core.List.{List, _++_}
+use mathlib.Core.Bool.{not}
+use mathlib.Core.List.{List, [], _∷_, _++_}
 use lib.Dec.{eqb, ltb}
 use lib.IntN.{ℤ, pos}
 use lib.ListN.{length, drop}
 use Rattle.bigendian.specs.Numbers.{numberAt, wordSum, signed32}
 use Rattle.calendar.specs.declared.Instant.{Instant}
-use Rattle.clock.specs.declared.SplitAnswer.{SplitAnswer}
-use Rattle.clock.specs.declared.SplitAnswer.the-variants.{Split, NoSplit}
-use Rattle.clock.specs.declared.JoinAnswer.{JoinAnswer}
-use Rattle.clock.specs.declared.JoinAnswer.the-variants.{Joined, NoJoin}
-use Rattle.clock.specs.Words.{splitOf, joinOf}
+use Rattle.calendar.specs.Refusals.{Case, case, refusedOr, firstRefusal}
+use Rattle.calendar.specs.Instants.{instant, instantCases}
+use Rattle.clock.specs.Words.{markUnit, timeWord, words, joinCases}
 use Rattle.record.specs.declared.Record.{Record}
 use Rattle.record.specs.declared.ReadAnswer.{ReadAnswer}
 use Rattle.record.specs.declared.ReadAnswer.the-variants.{IsRecord, NoRecord}
@@ -19,34 +17,36 @@ use Rattle.record.specs.Format.{recordLength, version, recordBytes}
 
 -- ---- writing
 
--- the refusal of writing into n bytes, 8 or 9 by the instant, then 12; 0 for none
-abbrev pub writeRefusalBy : SplitAnswer → ℕ → ℕ
-writeRefusalBy (NoSplit r) n = r
-writeRefusalBy (Split w) n = cond (ltb n recordLength) 12 0
+-- the refusals of a record of the instant d, m in n bytes: of the instant, and 12
+abbrev pub writeCases : ℤ → ℕ → ℕ → List Case
+writeCases d m n = instantCases d m ++ (case 12 (ltb n recordLength) ∷ [])
 
 unfoldable pub writeRefusal : ℤ → ℕ → ℕ → ℕ
-writeRefusal d m n = writeRefusalBy (splitOf d m) n
+writeRefusal d m n = firstRefusal (writeCases d m n)
 
 -- the buffer afterwards: as it was on a refusal, else the record and what stood behind it
-abbrev pub writtenBy : SplitAnswer → (ut1 lod rate : ℤ) → List ℕ → List ℕ
-writtenBy (NoSplit r) ut1 lod rate old = old
-writtenBy (Split w) ut1 lod rate old =
-    cond (ltb (length old) recordLength) old (recordBytes w ut1 lod rate ++ drop recordLength old)
-
 unfoldable pub written : ℤ → ℕ → (ut1 lod rate : ℤ) → List ℕ → List ℕ
-written d m ut1 lod rate old = writtenBy (splitOf d m) ut1 lod rate old
+written d m ut1 lod rate old =
+    refusedOr (λ _. old) (writeCases d m (length old)) (recordBytes (words d (timeWord d m)) ut1 lod rate ++ drop recordLength old)
 
 -- ---- reading
 
--- the first refusal of the bytes' form, 12, 14, 13, 15 or 16; 0 for none
+-- the refusals of the bytes' form
+abbrev pub formCases : List ℕ → List Case
+formCases s =
+    case 12 (ltb (length s) recordLength)
+    ∷ case 14 (not (eqb (numberAt s 2 1) version))
+    ∷ case 13 (not (eqb (numberAt s 0 2) recordLength))
+    ∷ case 15 (not (eqb (numberAt s 3 1) 0))
+    ∷ case 16 (not (eqb (wordSum s 15 % 65536) 0))
+    ∷ []
+
 unfoldable pub formRefusal : List ℕ → ℕ
-formRefusal s =
-    cond (ltb (length s) recordLength) 12
-    (cond (not (eqb (numberAt s 2 1) version)) 14
-    (cond (not (eqb (numberAt s 0 2) recordLength)) 13
-    (cond (not (eqb (numberAt s 3 1) 0)) 15
-    (cond (not (eqb (wordSum s 15 % 65536) 0)) 16
-    0))))
+formRefusal s = firstRefusal (formCases s)
+
+-- the refusals of reading: of the form, and of the clock words
+abbrev pub readCases : List ℕ → List Case
+readCases s = formCases s ++ joinCases (pos (numberAt s 4 4)) (numberAt s 8 8)
 
 -- an instant with the three numbers in s
 abbrev pub recordOf : Instant → List ℕ → Record
@@ -59,15 +59,9 @@ recordOf t s =
       rate = signed32 (numberAt s 24 4);
     }
 
-abbrev pub readBy : JoinAnswer → List ℕ → ReadAnswer
-readBy (NoJoin n) s = NoRecord n
-readBy (Joined t) s = IsRecord (recordOf t s)
-
--- the record that the first thirty bytes of s are, or the refusal: of their form, then of the clock words, 8, 9 or 10
+-- the record that the first thirty bytes of s are, or its refusal
 unfoldable pub readOf : List ℕ → ReadAnswer
-readOf s =
-    cond (eqb (formRefusal s) 0) (readBy (joinOf (pos (numberAt s 4 4)) (numberAt s 8 8)) s)
-    (NoRecord (formRefusal s))
+readOf s = refusedOr NoRecord (readCases s) (IsRecord (recordOf (instant (pos (numberAt s 4 4)) (numberAt s 8 8 % markUnit)) s))
 
 -- ---- the numbers that the exported calls give for an answer
 

@@ -13,7 +13,7 @@ use Rattle.algebra.specs.Integers.{+_}
 use Rattle.algebra.proofs.Ring.{end, _▸_, ring, quote}
 use Rattle.arguments.specs.Exact.{sinceJ2000}
 use Rattle.calendar.specs.Limits.{dayMicros}
-use Rattle.calendar.specs.Instants.{outside, indexAt, acceptance, IsAccepted}
+use Rattle.calendar.specs.Instants.{outside, indexAt, IsAccepted}
 use Rattle.record.specs.Format.{recordLength}
 use Rattle.record.proofs.Round.{read-back}
 use Rattle.zonal.specs.declared.Corrections.{Corrections}
@@ -21,7 +21,7 @@ use Rattle.zonal.specs.Within.{promised, Answered}
 use Rattle.zonal.proofs.Promises.{accepted-answered, given-accepted}
 use Rattle.zonal.proofs.Sizes.{Fit, corrections-fit}
 use Rattle.zonal.proofs.Worked.{no-constant}
-use Rattle.run.specs.Run.{laterDay, laterMicros, endsPast, runRefusal, recordAt, runBytes, runWritten}
+use Rattle.run.specs.Run.{laterDay, laterMicros, runRefusal, recordAt, runBytes, runWritten}
 use Rattle.run.specs.ReadBack.{ReadsAt}
 use Rattle.run.proofs.Refusals.{run-accepted}
 use Rattle.run.proofs.Records.{thirty, run-length, run-written}
@@ -105,5 +105,5 @@ not-copied x y = no-constant (x .answered .numbers) (y .answered .numbers) (x .a
 
 -- PROMISE. There are runs that are not refused: ninety-six records from day 54465 on, a quarter of an hour apart or a day apart.
 pub some-not-refused : (n : ℕ) → recordLength * 96 ≤ n → (runRefusal (+ 54465) 0 96 900_000_000 n ≡ 0) × (runRefusal (+ 54465) 0 96 86_400_000_000 n ≡ 0)
-unfolding runRefusal acceptance outside endsPast
+unfolding runRefusal outside
 some-not-refused n h = simp (le-ltb n (recordLength * 96) h) (refl, refl)

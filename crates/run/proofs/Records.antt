@@ -1,29 +1,24 @@
 -- The records of a run. Assumes nothing.
 use Prim.Native.Nat.{ℕ, zero, suc, _+_, _-_, _*_, _≤_, _<_}
 use mathlib.Core.Path.{_≡_, refl, ap, sym, _∙_}
-use mathlib.Core.Bool.{Bool, true, false}
 use mathlib.Core.List.{List, [], _++_, append-assoc, append-nil}
 use native.Mathlib.Numerals.{add-one}
 use native.Mathlib.Omega.{arith}
-use lib.Dec.{eqb}
 use lib.IntN.{ℤ}
 use lib.ListN.{length, take, drop, length-append, length-drop}
 use lib.Seq.{take-at, drop-at, drop-drop, take-all, drop-length}
-use borrow.Author.Tests.{eq-eqb, ne-eqb, eqb-true, eqb-false}
-use Rattle.calendar.specs.declared.Acceptance.{Acceptance}
-use Rattle.calendar.specs.declared.Acceptance.the-variants.{Accepted, NotAccepted}
-use Rattle.calendar.specs.Instants.{acceptance, IsAccepted}
+use borrow.Author.Tests.{ltb-false}
+use Rattle.calendar.specs.Instants.{instantCases, IsAccepted}
 use Rattle.calendar.proofs.Cases.{no-case}
-use Rattle.clock.specs.Words.{splitOf}
+use Rattle.calendar.proofs.FirstRefusal.{in-each, refused-alike, none-answered, refused-first, first-none}
 use Rattle.record.specs.Format.{recordLength}
 use Rattle.record.specs.Records.{written}
 use Rattle.record.proofs.Written.{written-is, record-length}
 use Rattle.zonal.specs.declared.Corrections.{Corrections}
 use Rattle.zonal.specs.declared.ZonalAnswer.the-variants.{Given, Refused}
-use Rattle.zonal.specs.Ours.{zonalBy, zonalOf}
-use Rattle.run.specs.Run.{laterDay, laterMicros, runRefusal, recordAt, runBytes, runWritten}
+use Rattle.zonal.specs.Ours.{zonalOf}
+use Rattle.run.specs.Run.{laterDay, laterMicros, runCases, runRefusal, recordAt, runBytes, runWritten}
 use Rattle.run.specs.Inner.{writtenAt}
-use Rattle.run.proofs.Refusals.{not-refused}
 
 -- the record of an accepted instant, written at the front of a buffer with room for it
 written-accepted : (d : ℤ) (m : ℕ) (old : List ℕ) → IsAccepted d m → recordLength ≤ length old → writtenAt d m old ≡ recordAt d m ++ drop recordLength old
@@ -32,12 +27,8 @@ written-accepted d m old a h = written-is d m _ _ _ old a h
 
 -- an instant without corrections has no record
 pub written-refused : (d : ℤ) (m n : ℕ) (old : List ℕ) → zonalOf d m ≡ Refused n → old ≡ writtenAt d m old
-unfolding writtenAt written splitOf zonalOf
-written-refused d m n old e = by (acceptance d m) refl e
-  where
-    by : (a : Acceptance) → acceptance d m ≡ a → zonalBy a m ≡ Refused n → old ≡ writtenAt d m old
-    by (Accepted i) p e = no-case (cc)
-    by (NotAccepted r) p e = rw p refl
+unfolding writtenAt written zonalOf
+written-refused d m n old e = sym (refused-alike Refused (λ _. old) (instantCases d m) _ _ n (λ k p. cc) (λ p. no-case (cc)) e)
 
 -- and one with corrections has that of its numbers
 pub written-given : (d : ℤ) (m : ℕ) (c : Corrections) (old : List ℕ) → zonalOf d m ≡ Given c → written d m (c .ut1) (c .lod) (c .rate) old ≡ writtenAt d m old
@@ -63,34 +54,29 @@ run-length d m step (suc k) =
 
 -- PROMISE. A run that is refused leaves every byte of the buffer as it was.
 pub refused-unchanged : (d : ℤ) (m count step : ℕ) (old : List ℕ) → (runRefusal d m count step (length old) ≡ 0 → ⊥) → runWritten d m count step old ≡ old
-unfolding runWritten
-refused-unchanged d m count step old h = simp (ne-eqb _ _ h)
+unfolding runRefusal runWritten
+refused-unchanged d m count step old h = refused-first (λ _. old) (runCases d m count step (length old)) _ h
 
 -- a run that is not refused fills the front with its records, and leaves what is behind them
 pub run-written : (d : ℤ) (m count step : ℕ) (old : List ℕ) → runRefusal d m count step (length old) ≡ 0 → runWritten d m count step old ≡ runBytes d m step count ++ drop (recordLength * count) old
-unfolding runWritten
-run-written d m count step old e = simp (eq-eqb _ _ e)
+unfolding runRefusal runWritten
+run-written d m count step old e = let cs = runCases d m count step (length old) in none-answered (λ _. old) cs _ (first-none cs tt e)
 
--- what a run leaves of the buffer
-pub record Keeps (d : ℤ) (m count step : ℕ) (old : List ℕ) : Type 0 where
-  pub size : length (runWritten d m count step old) ≡ length old
-  pub behind : drop (recordLength * count) (runWritten d m count step old) ≡ drop (recordLength * count) old
+-- what a run of count records leaves of the buffer
+pub record Keeps (count : ℕ) (old new : List ℕ) : Type 0 where
+  pub size : length new ≡ length old
+  pub behind : drop (recordLength * count) new ≡ drop (recordLength * count) old
 
 -- PROMISE. A run leaves the buffer as long as it is, and every byte behind its records as it was.
-pub run-keeps : (d : ℤ) (m count step : ℕ) (old : List ℕ) → Keeps d m count step old
-run-keeps d m count step old = by (eqb (runRefusal d m count step (length old)) 0) refl
-  where
-    by : (t : Bool) → eqb (runRefusal d m count step (length old)) 0 ≡ t → Keeps d m count step old
-    by false p = let e = refused-unchanged d m count step old (eqb-false _ _ p) in record { size = ap length e; behind = ap (drop (recordLength * count)) e }
-    by true p =
-        let e = eqb-true _ _ p in
-        let r = not-refused d m count step (length old) e in
-        let l : length (runBytes d m step count) ≡ recordLength * count = run-length d m step count in
-        let w = run-written d m count step old e in
-        record {
-          size = ap length w ∙ simp (length-append, length-drop) (omega (arith, r .room));
-          behind = ap (drop (recordLength * count)) w ∙ drop-at (runBytes d m step count) (drop (recordLength * count) old) (recordLength * count) l;
-        }
+pub run-keeps : (d : ℤ) (m count step : ℕ) (old : List ℕ) → Keeps count old (runWritten d m count step old)
+unfolding runWritten
+run-keeps d m count step old =
+    let l : length (runBytes d m step count) ≡ recordLength * count = run-length d m step count in
+    in-each (λ _. old) (Keeps count old) (runCases d m count step (length old)) _ (λ n. record { size = refl; behind = refl })
+    (λ h. record {
+      size = simp (length-append, length-drop) (omega (arith, ltb-false (length old) (recordLength * count) (h .1 .1 .1 .1 .1 .0)));
+      behind = drop-at (runBytes d m step count) (drop (recordLength * count) old) (recordLength * count) l;
+    })
 
 -- What stands in the buffer when k of count records have been written: these, and from the place `at` on the bytes that were there.
 pub record Filled (d : ℤ) (m count step : ℕ) (old s : List ℕ) (k at : ℕ) : Type 0 where

@@ -1,15 +1,14 @@
 -- Service (g): a run of records at equal steps from a start, each with the corrections of its own instant.
 use Prim.Native.Nat.{ℕ, zero, suc, _+_, _-_, _*_, _/_, _%_}
-use mathlib.Core.Bool.{Bool, cond, _||_}
-use mathlib.Core.List.{List, [], _++_}
-use lib.Dec.{eqb, ltb}
+use mathlib.Core.Bool.{Bool, _||_}
+use mathlib.Core.List.{List, [], _∷_, _++_}
+use lib.Dec.{ltb}
 use lib.IntN.{ℤ, pos, _+ℤ_}
 use lib.ListN.{length, drop}
 use lib.Signed.{ltZ}
-use Rattle.calendar.specs.declared.Acceptance.{Acceptance}
-use Rattle.calendar.specs.declared.Acceptance.the-variants.{Accepted, NotAccepted}
 use Rattle.calendar.specs.Limits.{lastDay, dayMicros}
-use Rattle.calendar.specs.Instants.{acceptance}
+use Rattle.calendar.specs.Refusals.{Case, case, refusedOr, firstRefusal}
+use Rattle.calendar.specs.Instants.{instantCases}
 use Rattle.clock.specs.Words.{words, timeWord}
 use Rattle.record.specs.Format.{recordLength, recordBytes}
 use Rattle.zonal.specs.Ours.{zonalOf, ut1Of, lodOf, rateOf}
@@ -32,21 +31,19 @@ badCount count = ltb count 1 || ltb mostRecords count
 abbrev pub badStep : ℕ → Bool
 badStep step = ltb step 1 || ltb dayMicros step
 
--- the last instant, count - 1 steps after the start d, m, is past the last day
-unfoldable pub endsPast : ℤ → ℕ → (count step : ℕ) → Bool
-endsPast d m count step = ltZ lastDay (laterDay d m ((count - 1) * step))
+-- the refusals of a run from the instant d, m into a buffer of n bytes: 17, 18, those of the start, 8 for a last instant past the last day,
+-- count - 1 steps after the start, and 12
+abbrev pub runCases : ℤ → ℕ → (count step n : ℕ) → List Case
+runCases d m count step n =
+    case 17 (badCount count)
+    ∷ case 18 (badStep step)
+    ∷ instantCases d m
+    ++ case 8 (ltZ lastDay (laterDay d m ((count - 1) * step)))
+    ∷ case 12 (ltb n (recordLength * count))
+    ∷ []
 
--- the refusals from the start on: 8 and 9 for the start, 8 for the last instant, 12 for a buffer that is too short
-abbrev pub startBy : Acceptance → (past short : Bool) → ℕ
-startBy (NotAccepted r) past short = r
-startBy (Accepted i) past short = cond past 8 (cond short 12 0)
-
--- 0, or the refusal of a run from the instant d, m into a buffer of n bytes: 17, 18, and those from the start on
 unfoldable pub runRefusal : ℤ → ℕ → (count step n : ℕ) → ℕ
-runRefusal d m count step n =
-    cond (badCount count) 17
-    (cond (badStep step) 18
-    (startBy (acceptance d m) (endsPast d m count step) (ltb n (recordLength * count))))
+runRefusal d m count step n = firstRefusal (runCases d m count step n)
 
 -- the record of the instant d, m: its clock words, and the numbers of its corrections
 unfoldable pub recordAt : ℤ → ℕ → List ℕ
@@ -59,7 +56,4 @@ runBytes d m step (suc k) = runBytes d m step k ++ recordAt (laterDay d m (k * s
 
 -- the buffer's bytes afterwards: as they were on a refusal, else the records and what was behind them
 unfoldable pub runWritten : ℤ → ℕ → (count step : ℕ) → List ℕ → List ℕ
-runWritten d m count step old =
-    cond (eqb (runRefusal d m count step (length old)) 0)
-    (runBytes d m step count ++ drop (recordLength * count) old)
-    old
+runWritten d m count step old = refusedOr (λ _. old) (runCases d m count step (length old)) (runBytes d m step count ++ drop (recordLength * count) old)

@@ -1,43 +1,50 @@
 -- The program's answer. Assumes nothing.
 use Prim.Native.Nat.{ℕ, _*_, _≤_}
 use mathlib.Core.Path.{_≡_, refl, sym}
-use mathlib.Core.Bool.{Bool, true, false, cond}
 use native.Mathlib.Omega.{arith}
-use lib.Dec.{eqb}
 use lib.IntN.{ℤ}
+use lib.ListN.{length}
 use mathlib.Core.List.{List}
-use borrow.Author.Tests.{eq-eqb, ne-eqb, eqb-true}
-use Rattle.calendar.specs.declared.DayAnswer.{DayAnswer}
 use Rattle.calendar.specs.declared.DayAnswer.the-variants.{Day, NoDay}
-use Rattle.calendar.specs.Dates.{dayOf}
+use Rattle.calendar.specs.Refusals.{refusedOr}
+use Rattle.calendar.specs.Dates.{dateCases, dayOf}
 use Rattle.calendar.proofs.Cases.{no-case}
+use Rattle.calendar.proofs.FirstRefusal.{refused-alike, answered-none, none-answered}
 use Rattle.line.specs.declared.Line.{Line}
 use Rattle.line.specs.declared.LineAnswer.{LineAnswer}
 use Rattle.line.specs.declared.LineAnswer.the-variants.{Parsed, BadLine}
 use Rattle.line.specs.Lines.{lineOf}
 use Rattle.record.specs.Format.{recordLength}
-use Rattle.run.specs.Run.{runRefusal}
+use Rattle.run.specs.Run.{runRefusal, runWritten}
 use Rattle.run.proofs.Refusals.{not-refused}
 use Rattle.run_line.specs.declared.Outcome.the-variants.{Run, Refused, Bad}
-use Rattle.run_line.specs.Answer.{second, byRefusal, onDay, forLine, outcomeOf, filledOnDay, filledOf}
+use Rattle.run_line.specs.Answer.{second, lineDay, dayRunCases, lineCases, forLine, outcomeOf, filledOf}
 
 -- ---- the answer, case by case
 
-pub by-refused : (r count : ℕ) → (r ≡ 0 → ⊥) → Refused r ≡ byRefusal r count
-by-refused r count h = simp (ne-eqb r 0 h)
-
-pub by-run : (r count : ℕ) → r ≡ 0 → Run (recordLength * count) ≡ byRefusal r count
-by-run r count e = simp (eq-eqb r 0 e)
-
-module _ (s : List ℕ) (n : ℕ) (old : List ℕ) where
-  pub bad : lineOf s ≡ BadLine → (Bad ≡ outcomeOf s n) × (old ≡ filledOf s old)
+module _ (s : List ℕ) (old : List ℕ) where
+  pub bad : lineOf s ≡ BadLine → (Bad ≡ outcomeOf s (length old)) × (old ≡ filledOf s old)
   unfolding outcomeOf filledOf
   bad e = rw e (refl, refl)
 
-  pub parsed : (l : Line) (a : DayAnswer) → lineOf s ≡ Parsed l → dayOf (l .year) (l .month) (l .day) ≡ a
-      → (onDay a (l .count) (l .step) n ≡ outcomeOf s n) × (filledOnDay a (l .count) (l .step) old ≡ filledOf s old)
-  unfolding outcomeOf filledOf
-  parsed l a e f = rw (e, f) (refl, refl)
+  module _ (l : Line) (e : lineOf s ≡ Parsed l) where
+    pub no-date : (n : ℕ) → dayOf (l .year) (l .month) (l .day) ≡ NoDay n → (Refused n ≡ outcomeOf s (length old)) × (old ≡ filledOf s old)
+    unfolding outcomeOf filledOf dayOf
+    no-date n f = rw e (by Refused _, by (λ _. old) _)
+      where
+        by : {A : Type 0} (refuse : ℕ → A) (a : A) → refuse n ≡ refusedOr refuse (dateCases (l .year) (l .month) (l .day)) a
+        by refuse a = sym (refused-alike NoDay refuse (dateCases (l .year) (l .month) (l .day)) _ a n (λ k p. cc) (λ p. no-case (cc)) f)
+
+    pub on-date : (d : ℤ) → dayOf (l .year) (l .month) (l .day) ≡ Day d
+        → (refusedOr Refused (dayRunCases d (l .count) (l .step) (length old)) (Run (recordLength * l .count)) ≡ outcomeOf s (length old))
+        × (runWritten d 0 (l .count) (l .step * second) old ≡ filledOf s old)
+    unfolding outcomeOf filledOf dayOf runWritten
+    on-date d f =
+        let cs = dateCases (l .year) (l .month) (l .day) in
+        let r = answered-none NoDay cs (Day (lineDay l)) (Day d) (λ n p. no-case (cc)) f in
+        let g : Day (lineDay l) ≡ Day d = r .1 in
+        let h : d ≡ lineDay l = cc in
+        rw (e, h) (sym (none-answered Refused cs _ (r .0)), sym (none-answered (λ _. old) cs _ (r .0)))
 
 -- What is so when the answer is a run of k bytes.
 pub record IsRun (s : List ℕ) (n k : ℕ) : Type 0 where
@@ -49,22 +56,23 @@ pub record IsRun (s : List ℕ) (n k : ℕ) : Type 0 where
   pub size : k ≡ recordLength * line .count
 
 pub is-run : (s : List ℕ) (n k : ℕ) → outcomeOf s n ≡ Run k → IsRun s n k
-unfolding outcomeOf
+unfolding outcomeOf dayOf runRefusal
 is-run s n k e = by (lineOf s) refl e
   where
-    last : (l : Line) (d : ℤ) → lineOf s ≡ Parsed l → dayOf (l .year) (l .month) (l .day) ≡ Day d
-        → (b : Bool) → eqb (runRefusal d 0 (l .count) (l .step * second) n) 0 ≡ b
-        → cond b (Run (recordLength * l .count)) (Refused (runRefusal d 0 (l .count) (l .step * second) n)) ≡ Run k → IsRun s n k
-    last l d p q true r e = let f : recordLength * l .count ≡ k = cc in record { line = l; day = d; is-line = p; is-day = q; none = eqb-true _ _ r; size = sym f }
-    last l d p q false r e = no-case (cc)
-
-    on : (l : Line) → lineOf s ≡ Parsed l → (a : DayAnswer) → dayOf (l .year) (l .month) (l .day) ≡ a → onDay a (l .count) (l .step) n ≡ Run k → IsRun s n k
-    on l p (NoDay r) q e = no-case (cc)
-    on l p (Day d) q e = last l d p q (eqb (runRefusal d 0 (l .count) (l .step * second) n) 0) refl e
-
     by : (a : LineAnswer) → lineOf s ≡ a → forLine a n ≡ Run k → IsRun s n k
     by BadLine p e = no-case (cc)
-    by (Parsed l) p e = on l p (dayOf (l .year) (l .month) (l .day)) refl e
+    by (Parsed l) p e =
+        let r = answered-none Refused (lineCases l n) (Run (recordLength * l .count)) (Run k) (λ n p. no-case (cc)) e in
+        let g : Run (recordLength * l .count) ≡ Run k = r .1 in
+        let f : recordLength * l .count ≡ k = cc in
+        record {
+          line = l;
+          day = lineDay l;
+          is-line = p;
+          is-day = none-answered NoDay (dateCases (l .year) (l .month) (l .day)) (Day (lineDay l)) (r .0 .0, (r .0 .1 .0, (r .0 .1 .1 .0, tt)));
+          none = none-answered (λ k. k) (dayRunCases (lineDay l) (l .count) (l .step) n) 0 (r .0 .1 .1 .1);
+          size = sym f;
+        }
 
 -- the bytes of a run are in the buffer
 pub run-within : (s : List ℕ) (n k : ℕ) → outcomeOf s n ≡ Run k → k ≤ n

@@ -1,19 +1,17 @@
 -- What is promised of the program's answer. Assumes nothing.
 use Prim.Native.Nat.{ℕ, _-_, _*_, _≤_}
 use mathlib.Core.Path.{_≡_, refl, ap, sym, _∙_}
-use mathlib.Core.Bool.{Bool, true, false, cond, _||_}
 use mathlib.Core.List.{List, [], _∷_, _++_}
 use native.Mathlib.Omega.{arith}
-use lib.Dec.{ltb}
-use lib.IntN.{ℤ}
 use lib.ListN.{length, take, drop, getD}
 use lib.Seq.{take-at}
 use lib.Signed.{ltZ}
 use borrow.Author.Tests.{le-ltb}
 use Rattle.calendar.specs.declared.DayAnswer.the-variants.{Day, NoDay}
-use Rattle.calendar.specs.Limits.{firstYear, lastYear, lastDay, dayMicros}
-use Rattle.calendar.specs.Refusals.{case, firstRefusal}
-use Rattle.calendar.specs.Dates.{date, monthLength, indexOf, numberOf, dayOf}
+use Rattle.calendar.specs.Limits.{lastDay}
+use Rattle.calendar.specs.Refusals.{Case, case, refusedOr}
+use Rattle.calendar.specs.Dates.{date, dateCases, dayOf}
+use Rattle.calendar.proofs.FirstRefusal.{in-both, none-answered}
 use Rattle.calendar.proofs.Inverse.{there-and-back, date-range}
 use Rattle.line.specs.declared.Line.{Line}
 use Rattle.line.specs.declared.LineAnswer.{LineAnswer}
@@ -22,66 +20,37 @@ use Rattle.line.specs.Lines.{newline, lineOf}
 use Rattle.line.proofs.Grammar.{first-bytes, no-newline}
 use Rattle.line.proofs.Newline.{after-newline}
 use Rattle.record.specs.Format.{recordLength}
-use Rattle.run.specs.Run.{mostRecords, laterDay, badCount, badStep, runRefusal, runBytes}
-use Rattle.run.proofs.Refusals.{run-refusal, not-refused, between}
+use Rattle.run.specs.Run.{mostRecords, laterDay, badCount, badStep, runBytes}
+use Rattle.run.proofs.Refusals.{not-refused, between}
 use Rattle.run.proofs.Records.{run-length, run-written}
-use Rattle.run_line.specs.declared.Outcome.the-variants.{Run, Bad}
-use Rattle.run_line.specs.Answer.{second, byRefusal, onDay, forLine, outcomeOf, filledForLine, filledOf}
-use Rattle.run_line.proofs.Answers.{IsRun, is-run, parsed}
+use Rattle.run_line.specs.declared.Outcome.{Outcome}
+use Rattle.run_line.specs.declared.Outcome.the-variants.{Run, Refused, Bad}
+use Rattle.run_line.specs.Answer.{second, lineDay, forLine, outcomeOf, filledForLine, filledOf}
+use Rattle.run_line.proofs.Answers.{IsRun, is-run, on-date}
 
 -- ---- the refusals
 
--- the day number of a date in range
-abbrev pub dayNumber : (y m d : ℕ) → ℤ
-dayNumber y m d = numberOf (indexOf (date y m d))
-
-module _ (y m d count t n : ℕ) (room : recordLength * mostRecords ≤ n) where
-  abbrev z : ℤ
-  z = dayNumber y m d
-
-  -- a run from 0 h of a date with room for every count is refused by 17, 18 and 8 alone
-  midnight : dayOf y m d ≡ Day z
-      → runRefusal z 0 count t n ≡ firstRefusal (case 17 (badCount count) ∷ case 18 (badStep t) ∷ case 8 (ltZ lastDay (laterDay z 0 ((count - 1) * t))) ∷ [])
-  midnight e = run-refusal z 0 count t n ∙ rw (date-range z (date y m d) (there-and-back y m d z e) .0) (by (badCount count) refl)
-    where
-      past : Bool
-      past = ltZ lastDay (laterDay z 0 ((count - 1) * t))
-
-      by : (b : Bool) → badCount count ≡ b
-          → firstRefusal (case 17 b ∷ case 18 (badStep t) ∷ case 8 past ∷ case 12 (ltb n (recordLength * count)) ∷ [])
-          ≡ firstRefusal (case 17 b ∷ case 18 (badStep t) ∷ case 8 past ∷ [])
-      by true p = refl
-      by false p = let h = between count 1 mostRecords p in rw (le-ltb n (recordLength * count) (omega arith)) refl
-
-  -- the date's refusals come first
-  dated : (a b c : Bool) → (cond a (NoDay 1) (cond b (NoDay 2) (cond c (NoDay 3) (Day z))) ≡ Day z → dayOf y m d ≡ Day z) → (step : ℕ) → step * second ≡ t
-      → onDay (cond a (NoDay 1) (cond b (NoDay 2) (cond c (NoDay 3) (Day z)))) count step n
-      ≡ byRefusal (firstRefusal (case 1 a ∷ case 2 b ∷ case 3 c ∷ case 17 (badCount count) ∷ case 18 (badStep t) ∷ case 8 (ltZ lastDay (laterDay z 0 ((count - 1) * t))) ∷ [])) count
-  dated true b c f step e = refl
-  dated false true c f step e = refl
-  dated false false true f step e = refl
-  dated false false false f step e = rw e (ap (λ (r : ℕ). byRefusal r count) (midnight (f refl)))
+-- the refusals of a line that can apply when there is room for every count
+abbrev pub shortCases : Line → List Case
+shortCases l =
+    dateCases (l .year) (l .month) (l .day)
+    ++ case 17 (badCount (l .count))
+    ∷ case 18 (badStep (l .step * second))
+    ∷ case 8 (ltZ lastDay (laterDay (lineDay l) 0 ((l .count - 1) * (l .step * second))))
+    ∷ []
 
 -- PROMISE. A line of five numbers is answered by the first of these refusals that applies: 1, 2 and 3 for the date, 17 for the count, 18 for the
 -- step, and 8 for a last instant past the last day; or else by the run.
-pub line-answer : (s : List ℕ) (l : Line) (n : ℕ) → recordLength * mostRecords ≤ n → lineOf s ≡ Parsed l →
-    let step = l .step * second in
-    outcomeOf s n
-    ≡ byRefusal
-    (firstRefusal
-    (case 1 (ltb (l .year) firstYear || ltb lastYear (l .year))
-    ∷ case 2 (ltb (l .month) 1 || ltb 12 (l .month))
-    ∷ case 3 (ltb (l .day) 1 || ltb (monthLength (l .year) (l .month)) (l .day))
-    ∷ case 17 (ltb (l .count) 1 || ltb mostRecords (l .count))
-    ∷ case 18 (ltb step 1 || ltb dayMicros step)
-    ∷ case 8 (ltZ lastDay (laterDay (dayNumber (l .year) (l .month) (l .day)) 0 ((l .count - 1) * step)))
-    ∷ []))
-    (l .count)
-unfolding dayOf
+pub line-answer : (s : List ℕ) (l : Line) (n : ℕ) → recordLength * mostRecords ≤ n → lineOf s ≡ Parsed l → outcomeOf s n ≡ refusedOr Refused (shortCases l) (Run (recordLength * l .count))
+unfolding outcomeOf dayOf
 line-answer s l n room e =
-    sym (parsed s n [] l (dayOf (l .year) (l .month) (l .day)) e refl .0)
-    ∙ dated (l .year) (l .month) (l .day) (l .count) (l .step * second) n room
-    (ltb (l .year) firstYear || ltb lastYear (l .year)) (ltb (l .month) 1 || ltb 12 (l .month)) (ltb (l .day) 1 || ltb (monthLength (l .year) (l .month)) (l .day)) (λ q. q) (l .step) refl
+    rw e
+    (in-both (λ (x y : Outcome). x ≡ y) Refused Refused (dateCases (l .year) (l .month) (l .day)) _ _ (λ k. refl)
+    (λ h.
+    let z = lineDay l in
+    let o = date-range z (date (l .year) (l .month) (l .day)) (there-and-back (l .year) (l .month) (l .day) z (none-answered NoDay (dateCases (l .year) (l .month) (l .day)) (Day z) h)) .0 in
+    in-both (λ (x y : Outcome). x ≡ y) Refused Refused (case 17 (badCount (l .count)) ∷ []) _ _ (λ k. refl)
+    (λ p. let b = between (l .count) 1 mostRecords (p .0) in rw (o, le-ltb n (recordLength * l .count) (omega arith)) refl)))
 
 -- ---- the run
 
@@ -97,7 +66,7 @@ answer-run s old k e =
     let r : IsRun s (length old) k = is-run s (length old) k e in
     let t : ℕ = r .line .step * second in
     let w : filledOf s old ≡ runBytes (r .day) 0 t (r .line .count) ++ drop (recordLength * r .line .count) old =
-    sym (parsed s (length old) old (r .line) (Day (r .day)) (r .is-line) (r .is-day) .1) ∙ run-written (r .day) 0 (r .line .count) t old (r .none) in
+    sym (on-date s old (r .line) (r .is-line) (r .day) (r .is-day) .1) ∙ run-written (r .day) 0 (r .line .count) t old (r .none) in
     record {
       asked = r;
       most = omega (arith, r .size, not-refused (r .day) 0 (r .line .count) t (length old) (r .none) .counted .few);

@@ -4,8 +4,11 @@ use line::LineAnswer;
 ghost use mathlib.Core.Path.{_≡_};
 ghost use Prim.Native.Nat.{_^_, _*_, _<_};
 ghost use lib.ListN.{length};
-ghost use Rattle.calendar.specs.declared.DayAnswer.the-variants.{Day};
-ghost use Rattle.run_line.specs.Answer.{onDay, filledOnDay, outcomeOf, filledOf};
+ghost use Rattle.calendar.specs.Refusals.{refusedOr};
+ghost use Rattle.record.specs.Format.{recordLength};
+ghost use Rattle.run.specs.Run.{runWritten};
+ghost use Rattle.run_line.specs.declared.Outcome.the-variants as outcome;
+ghost use Rattle.run_line.specs.Answer.{second, dayRunCases, outcomeOf, filledOf};
 
 // The microseconds of a second.
 const SECOND: u64 = 1000000;
@@ -23,8 +26,8 @@ pub enum Outcome {
 // The run of a day from 0 h on, with a step in seconds.
 fn day_run(day: i64, count: u64, step: u64, buffer: &mut [u8]) -> Outcome
     requires { ⌜ step < 10 ^ 10 ⌝ }
-    ensures { λ r. ⌜ r ≡ onDay (Day day) count step (length (now (buffer .entry))) ⌝ }
-    ensures { λ _. ⌜ now (buffer .exit) ≡ filledOnDay (Day day) count step (now (buffer .entry)) ⌝ }
+    ensures { λ r. ⌜ r ≡ refusedOr outcome.Refused (dayRunCases day count step (length (now (buffer .entry)))) (outcome.Run (recordLength * count)) ⌝ }
+    ensures { λ _. ⌜ now (buffer .exit) ≡ runWritten day 0 count (step * second) (now (buffer .entry)) ⌝ }
 {
     let n = run::write(day, 0, count, step * SECOND, buffer);
     if n != 0 {

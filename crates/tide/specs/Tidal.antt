@@ -1,13 +1,13 @@
 -- The rules of docs/RULES.md for the frequency and phase of a tidal constituent, in their order.
 use Prim.Native.Nat.{ℕ}
-use mathlib.Core.Bool.{Bool, cond, _&&_}
+use mathlib.Core.Bool.{Bool, cond, not, _&&_}
+use mathlib.Core.List.{List, [], _∷_, _++_}
 use lib.IntN.{ℤ, pos, negℤ}
 use lib.Signed.{leZ}
 use lib.Ieee as Ieee
 use lib.Ieee.{Float, binary64, neg}
-use Rattle.calendar.specs.Instants.{acceptance}
-use Rattle.calendar.specs.declared.Acceptance.{Acceptance}
-use Rattle.calendar.specs.declared.Acceptance.the-variants.{Accepted, NotAccepted}
+use Rattle.calendar.specs.Refusals.{Case, case, refusedOr}
+use Rattle.calendar.specs.Instants.{instantCases}
 use Rattle.tide.specs.Binary64.{_⊕_, _⊖_, _⊗_, _⊘_, whole, zero64, plus}
 use Rattle.tide.specs.Delaunay.{F1, F2, F3, F4, F5, FD1, FD2, FD3, FD4, FD5}
 use Rattle.tide.specs.declared.Doodson.{Doodson}
@@ -83,17 +83,21 @@ inRange z = leZ (negℤ (pos 12)) z && leZ z (pos 12)
 unfoldable pub allInRange : Doodson → Bool
 allInRange k = ((((inRange (k .k1) && inRange (k .k2)) && inRange (k .k3)) && inRange (k .k4)) && inRange (k .k5)) && inRange (k .k6)
 
--- from arguments at hand: both numbers, or refusal 11
+-- the refusal of six multipliers
+abbrev pub rangeCases : Doodson → List Case
+rangeCases k = case 11 (not (allInRange k)) ∷ []
+
+-- from arguments at hand: both numbers, or the multipliers' refusal
 unfoldable pub answerOf : Arguments → Doodson → Answer
-answerOf a k = cond (allInRange k) (Given (constituentOf a k)) (Refused 11)
+answerOf a k = refusedOr Refused (rangeCases k) (Given (constituentOf a k))
 
--- the first refusal that applies, of 8, 9 and 11; or both numbers
-abbrev pub tideBy : Acceptance → (d : ℤ) (m : ℕ) → Doodson → Answer
-tideBy (NotAccepted n) d m k = Refused n
-tideBy (Accepted i) d m k = answerOf (argumentsAt d m) k
+-- the refusals of an instant and of six multipliers
+abbrev pub tideCases : (d : ℤ) (m : ℕ) → Doodson → List Case
+tideCases d m k = instantCases d m ++ rangeCases k
 
+-- both numbers, or a refusal
 unfoldable pub tideOf : (d : ℤ) (m : ℕ) → Doodson → Answer
-tideOf d m k = tideBy (acceptance d m) d m k
+tideOf d m k = refusedOr Refused (tideCases d m k) (Given (constituentOf (argumentsAt d m) k))
 
 -- The numbers that the exported calls give: the frequency and the phase, +0 on a refusal, and the refusal number, 0 for none.
 abbrev pub frequencyOf : Answer → Float

@@ -4,9 +4,8 @@ use Prim.Native.Nat.{ℕ, _^_}
 use lib.IntN.{ℤ, _+ℤ_, _*ℤ_}
 use lib.Signed.{shrZ}
 use Rattle.algebra.specs.Integers.{+_}
-use Rattle.calendar.specs.declared.Acceptance.{Acceptance}
-use Rattle.calendar.specs.declared.Acceptance.the-variants.{Accepted, NotAccepted}
-use Rattle.calendar.specs.Instants.{acceptance}
+use Rattle.calendar.specs.Refusals.{refusedOr}
+use Rattle.calendar.specs.Instants.{indexAt, instantCases}
 use Rattle.arguments.specs.Ours.{moment, ourAngle}
 use Rattle.sine.specs.Ours.{ourSine, ourCosine}
 use Rattle.zonal.specs.declared.Corrections.{Corrections}
@@ -44,13 +43,9 @@ corrections a b c = record { ut1 = a; lod = b; rate = c }
 unfoldable pub correctionsAt : ℕ → ℕ → Corrections
 correctionsAt i m = corrections (ourUt1 (moment i m)) (ourLod (moment i m)) (ourRate (moment i m))
 
--- the answer: the three numbers of an accepted instant, or its refusal, 8 or 9
-abbrev pub zonalBy : Acceptance → ℕ → ZonalAnswer
-zonalBy (Accepted i) m = Given (correctionsAt i m)
-zonalBy (NotAccepted n) m = Refused n
-
+-- the answer: the three numbers of an accepted instant, or its refusal
 unfoldable pub zonalOf : ℤ → ℕ → ZonalAnswer
-zonalOf d m = zonalBy (acceptance d m) m
+zonalOf d m = refusedOr Refused (instantCases d m) (Given (correctionsAt (indexAt d) m))
 
 -- the numbers that the exported calls give for an answer
 abbrev pub ut1Of : ZonalAnswer → ℤ

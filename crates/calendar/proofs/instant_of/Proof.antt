@@ -1,11 +1,28 @@
 -- `calendar::instant_of` meets its contract. Assumes nothing.
-use mathlib.Core.Path.{_∙_, ap, sym}
+use Prim.Native.Nat.{ℕ}
+use mathlib.Core.Path.{_≡_, refl, _∙_, ap, sym}
 use lib.IntN.{ℤ}
 use mir.Facts.{toZ-ofZ}
-use Rattle.calendar.specs.Times.{timeOf, instantOf}
+use Rattle.calendar.specs.declared.DayAnswer.{DayAnswer}
+use Rattle.calendar.specs.declared.DayAnswer.the-variants.{Day, NoDay}
+use Rattle.calendar.specs.declared.InstantAnswer.{InstantAnswer}
+use Rattle.calendar.specs.declared.InstantAnswer.the-variants.{NoInstant}
+use Rattle.calendar.specs.Dates.{dateCases, dayOf}
+use Rattle.calendar.specs.Times.{instantOf}
+use Rattle.calendar.specs.Inner.{timeOf}
+use Rattle.calendar.proofs.FirstRefusal.{handed-on}
 use borrow.Author.Needs.{needs}
 use Rattle.calendar.proofs.instant_of.Statement.{statement}
 use Rattle.calendar.proofs.instant_of.Tie as tie
+
+-- the match of the code: the date's refusal comes first
+abbrev timeBy : DayAnswer → (h n s u : ℕ) → InstantAnswer
+timeBy (Day d) h n s u = timeOf d h n s u
+timeBy (NoDay k) h n s u = NoInstant k
+
+matched : (y m d h n s u : ℕ) → timeBy (dayOf y m d) h n s u ≡ instantOf y m d h n s u
+unfolding dayOf timeOf instantOf
+matched y m d h n s u = handed-on NoDay (λ (a : DayAnswer). timeBy a h n s u) (λ k. refl) (dateCases y m d) _
 
 day-of-requires : tie.Need-day-of-requires
 day-of-requires c κs = search needs
@@ -20,15 +37,13 @@ time-of-requires : tie.Need-time-of-requires
 time-of-requires c κs = search needs
 
 returns : tie.Need-returns
-unfolding instantOf
-returns c = rw (sym (c .before .before .before .day-of .ensures) ∙ c .before .n .given .1)
+returns c = rw (← matched, sym (c .before .before .before .day-of .ensures) ∙ c .before .n .given .1)
 
 returns-2 : tie.Need-returns-2
-unfolding instantOf
 returns-2 c =
     let k = c .before .before .before .before in
     let a = k .before .args in
-    rw (sym (k .day-of .ensures) ∙ c .before .before .d .given .1)
+    rw (← matched, sym (k .day-of .ensures) ∙ c .before .before .d .given .1)
     (c .time-of .ensures ∙ ap (λ (d : ℤ). timeOf d (a .hour) (a .minute) (a .second) (a .microsecond)) (toZ-ofZ (search needs)))
 
 pub instant-of-spec : {M : Type 1} → statement M

@@ -1,7 +1,7 @@
 -- `calendar::time_of` meets its contract. Assumes nothing.
 use borrow.Author.Tests.{lt-ltb, le-ltb}
 use mir.Facts.{toZ-ofZ}
-use Rattle.calendar.specs.Times.{timeOf}
+use Rattle.calendar.specs.Inner.{timeOf}
 use borrow.Author.Needs.{needs}
 use Rattle.calendar.proofs.time_of.Statement.{statement}
 use Rattle.calendar.proofs.time_of.Tie as tie

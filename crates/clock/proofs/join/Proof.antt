@@ -7,7 +7,8 @@ use borrow.Author.Tests.{eq-eqb, ne-eqb}
 use mir.Facts.{toZ-ofZ}
 use Rattle.calendar.specs.declared.Acceptance.the-variants.{Accepted}
 use Rattle.calendar.specs.Instants.{acceptance}
-use Rattle.calendar.proofs.Index.{AcceptedAt, accepted-at}
+use Rattle.calendar.proofs.Index.{AcceptedAt, accepted-at, refused-too}
+use Rattle.clock.specs.declared.JoinAnswer.the-variants.{NoJoin}
 use Rattle.clock.specs.Words.{markUnit, mark, joinOf}
 use Rattle.clock.proofs.Mark.{mark-index}
 use borrow.Author.Needs.{needs}
@@ -40,15 +41,15 @@ add-if1 c = omega (arith, known c .high)
 
 returns : tie.Need-returns
 unfolding joinOf
-returns c = rw (found (c .before)) (simp (marked (c .before), ne-eqb _ _ (c .if1 .taken)))
+returns c = let k = known (c .before) in simp (k .inside, k .within, marked (c .before), ne-eqb _ _ (c .if1 .taken))
 
 returns-2 : tie.Need-returns-2
 unfolding joinOf
-returns-2 c = rw (sym (says (c .before .before .before)) ∙ c .before .n .given .1)
+returns-2 c = refused-too NoJoin _ _ _ (sym (says (c .before .before .before)) ∙ c .before .n .given .1)
 
 returns-3 : tie.Need-returns-3
 unfolding joinOf
-returns-3 c = rw (found (c .before)) (simp (marked (c .before), eq-eqb _ _ (c .if1 .left), toZ-ofZ (c .before .before .before .before .before .fits .day)))
+returns-3 c = let k = known (c .before) in simp (k .inside, k .within, marked (c .before), eq-eqb _ _ (c .if1 .left), toZ-ofZ (c .before .before .before .before .before .fits .day))
 
 pub join-spec : {M : Type 1} → statement M
 join-spec =

@@ -6,7 +6,8 @@ use lib.IntN.{ℤ}
 use mir.Facts.{toZ-ofZ}
 use Rattle.calendar.specs.declared.Acceptance.the-variants.{Accepted}
 use Rattle.calendar.specs.Instants.{acceptance}
-use Rattle.calendar.proofs.Index.{AcceptedAt, accepted-at}
+use Rattle.calendar.proofs.Index.{AcceptedAt, accepted-at, refused-too, answered-too}
+use Rattle.clock.specs.declared.SplitAnswer.the-variants.{NoSplit}
 use Rattle.clock.specs.Words.{mark, splitOf}
 use Rattle.clock.proofs.Mark.{mark-index}
 use borrow.Author.Needs.{needs}
@@ -45,11 +46,11 @@ add-t10 c = omega (arith, known c .less)
 
 returns : tie.Need-returns
 unfolding splitOf
-returns c = rw (sym (says (c .before .before .before)) ∙ c .before .n .given .1)
+returns c = refused-too NoSplit _ _ _ (sym (says (c .before .before .before)) ∙ c .before .n .given .1)
 
 returns-2 : tie.Need-returns-2
 unfolding splitOf
-returns-2 c = rw (found c) (simp (marked c, toZ-ofZ (c .before .before .before .before .fits .day)))
+returns-2 c = simp (toZ-ofZ (c .before .before .before .before .fits .day), ← marked c) (answered-too NoSplit _ _ _ (found c))
 
 pub split-spec : {M : Type 1} → statement M
 split-spec =

@@ -1,29 +1,27 @@
 -- `record::read` meets its contract. Assumes nothing.
 use Prim.Native.Nat.{_^_, _<_}
 use mathlib.Core.Path.{_≡_, ap, sym, _∙_}
-use mathlib.Core.Bool.{true}
 use native.Mathlib.Omega.{arith}
-use borrow.Author.Tests.{eq-eqb, ne-eqb}
-use lib.Dec.{eqb}
 use lib.IntN.{pos}
 use denote.Ref.{now}
 use mir.Syntax.{w32, w64}
 use mir.Val.{SFits}
 use mir.Facts.{toZ-ofZ, toZ-pos}
 use Rattle.bigendian.specs.Numbers.{numberAt}
+use Rattle.calendar.proofs.FirstRefusal.{refused-first}
 use Rattle.clock.specs.Words.{joinOf}
 use Rattle.record.specs.declared.ReadAnswer.the-variants.{NoRecord}
-use Rattle.record.specs.Records.{formRefusal, readOf}
-use Rattle.record.proofs.Forms.{Formed, formed}
+use Rattle.record.specs.Records.{formCases, formRefusal, readOf}
+use Rattle.record.proofs.Forms.{Formed, formed, read-refused, read-joined}
 use borrow.Author.Needs.{needs}
 use Rattle.record.proofs.read.Statement.{statement}
 use Rattle.record.proofs.read.Tie as tie
 
-known : (c : tie.Else1) → Formed (now (c .before .before .before .args .s))
-known c = formed _ (sym (c .before .form .ensures) ∙ c .if1 .left)
+right : (c : tie.Else1) → formRefusal (now (c .before .before .before .args .s)) ≡ 0
+right c = sym (c .before .form .ensures) ∙ c .if1 .left
 
-right : (c : tie.Else1) → eqb (formRefusal (now (c .before .before .before .args .s))) 0 ≡ true
-right c = eq-eqb _ _ (sym (c .before .form .ensures) ∙ c .if1 .left)
+known : (c : tie.Else1) → Formed (now (c .before .before .before .args .s))
+known c = formed _ (right c)
 
 joins : (c : tie.After-join) →
     let s = now (c .before .before .before .before .before .before .args .s) in
@@ -38,8 +36,10 @@ form-requires : tie.Need-form-requires
 form-requires c κs = search needs
 
 returns : tie.Need-returns
-unfolding readOf
-returns c = simp (ne-eqb _ _ (λ q. c .if1 .taken (c .before .form .ensures ∙ q))) (ap NoRecord (c .before .form .ensures))
+unfolding readOf formRefusal
+returns c =
+    let e = c .before .form .ensures in
+    ap NoRecord e ∙ sym (refused-first NoRecord (formCases (now (c .before .before .before .args .s))) _ (λ q. c .if1 .taken (e ∙ q)))
 
 number-at-requires : tie.Need-number-at-requires
 number-at-requires c κs = omega (arith, known c .long)
@@ -78,11 +78,9 @@ signed-requires-3 : tie.Need-signed-requires-3
 signed-requires-3 c κs = search needs
 
 returns-2 : tie.Need-returns-2
-unfolding readOf
-returns-2 c = simp (right (c .before .before .before .before .before .before), sym (joins (c .before .before .before)) ∙ c .before .n .given .1)
+returns-2 c = sym (read-refused _ (right (c .before .before .before .before .before .before)) _ (sym (joins (c .before .before .before)) ∙ c .before .n .given .1))
 
 returns-3 : tie.Need-returns-3
-unfolding readOf
 returns-3 c =
     let z = c .before in
     let y = z .before .before in
@@ -94,15 +92,14 @@ returns-3 c =
     let fz : SFits w32 (z .signed3 .result) = search needs in
     rw (toZ-ofZ fd, toZ-ofZ fx, toZ-ofZ fy, toZ-ofZ fz)
     (simp (
-      right (t .before .before .before .before .before),
-      sym (joins (t .before .before)) ∙ t .t .given .1,
       x .signed .ensures,
       y .signed2 .ensures,
       z .signed3 .ensures,
       x .before .number-at3 .ensures .0,
       y .before .number-at4 .ensures .0,
       z .before .number-at5 .ensures .0,
-    ))
+    )
+    (sym (read-joined _ (right (t .before .before .before .before .before)) _ (sym (joins (t .before .before)) ∙ t .t .given .1))))
 
 pub read-spec : {M : Type 1} → statement M
 read-spec =

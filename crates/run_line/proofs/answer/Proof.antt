@@ -6,13 +6,17 @@ use lib.ListN.{length}
 use mir.Syntax.{w64}
 use mir.Val.{toZ, ofZ}
 use mir.Facts.{toZ-ofZ}
-use Rattle.calendar.specs.declared.DayAnswer.the-variants.{Day}
+use Prim.Native.Nat.{_*_}
+use Rattle.calendar.specs.Refusals.{refusedOr}
 use Rattle.line.specs.declared.Line.{Line}
 use Rattle.line.specs.declared.LineAnswer.the-variants.{Parsed}
 use Rattle.line.specs.Lines.{lineOf}
-use Rattle.run_line.specs.Answer.{onDay, filledOnDay}
+use Rattle.record.specs.Format.{recordLength}
+use Rattle.run.specs.Run.{runWritten}
+use Rattle.run_line.specs.declared.Outcome.the-variants.{Run, Refused}
+use Rattle.run_line.specs.Answer.{second, dayRunCases}
 use Rattle.run_line.proofs.Small.{step-small}
-use Rattle.run_line.proofs.Answers.{bad, parsed}
+use Rattle.run_line.proofs.Answers.{bad, no-date, on-date}
 use borrow.Author.Needs.{needs}
 use Rattle.run_line.proofs.answer.Statement.{statement}
 use Rattle.run_line.proofs.answer.Tie as tie
@@ -51,12 +55,12 @@ day-run-requires c κs = let a = c .before .before .before .before in step-small
 returns : tie.Need-returns
 returns c =
     let b = c .before .before .before .before .before in
-    bad (now (b .args .s)) (length (now (b .args .buffer))) (now (b .args .buffer)) (sym (c .before .before .parse .ensures) ∙ c .enum-told .given .1)
+    bad (now (b .args .s)) (now (b .args .buffer)) (sym (c .before .before .parse .ensures) ∙ c .enum-told .given .1)
 
 returns-2 : tie.Need-returns-2
 returns-2 c =
     let a = c .before .before .before in
-    parsed (now (s a .args .s)) (length (now (s a .args .buffer))) (now (s a .args .buffer)) (l a) _ (is-line a) (sym (a .day-of .ensures) ∙ c .before .n .given .1)
+    no-date (now (s a .args .s)) (now (s a .args .buffer)) (l a) (is-line a) _ (sym (a .day-of .ensures) ∙ c .before .n .given .1)
 
 same-length : tie.Need-same-length
 same-length c = search needs
@@ -68,9 +72,9 @@ returns-3 c =
     let a = k .before .before in
     let d = k .d .given .0 .0 in
     let e : toZ w64 (ofZ w64 d) ≡ d = toZ-ofZ (search needs) in
-    let p = parsed (now (s a .args .s)) (length (now (s a .args .buffer))) (now (s a .args .buffer)) (l a) (Day d) (is-line a) (sym (a .day-of .ensures) ∙ k .d .given .1) in (
-      w .day-run .ensures .0 ∙ (ap (λ (z : ℤ). onDay (Day z) (l a .count) (l a .step) (length (now (s a .args .buffer)))) e ∙ p .0),
-      w .day-run .ensures .1 ∙ (ap (λ (z : ℤ). filledOnDay (Day z) (l a .count) (l a .step) (now (s a .args .buffer))) e ∙ p .1),
+    let p = on-date (now (s a .args .s)) (now (s a .args .buffer)) (l a) (is-line a) d (sym (a .day-of .ensures) ∙ k .d .given .1) in (
+      w .day-run .ensures .0 ∙ (ap (λ (z : ℤ). refusedOr Refused (dayRunCases z (l a .count) (l a .step) (length (now (s a .args .buffer)))) (Run (recordLength * l a .count))) e ∙ p .0),
+      w .day-run .ensures .1 ∙ (ap (λ (z : ℤ). runWritten z 0 (l a .count) (l a .step * second) (now (s a .args .buffer))) e ∙ p .1),
     )
 
 pub answer-spec : {M : Type 1} → statement M

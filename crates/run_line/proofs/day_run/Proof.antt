@@ -2,15 +2,17 @@
 use Prim.Native.Nat.{_*_}
 use native.Mathlib.Omega.{arith}
 use mathlib.Core.Path.{_≡_, _∙_, ap, sym}
+use mathlib.Core.List.{List}
 use denote.Ref.{now}
 use lib.IntN.{ℤ}
 use lib.ListN.{length}
 use mir.Facts.{toZ-ofZ}
+use Rattle.calendar.specs.Refusals.{Case}
+use Rattle.calendar.proofs.FirstRefusal.{none-answered, refused-first, first-none}
 use Rattle.run.specs.Run.{runRefusal, runWritten}
 use Rattle.run.proofs.Refusals.{not-refused}
 use Rattle.run_line.specs.declared.Outcome.the-variants.{Refused}
-use Rattle.run_line.specs.Answer.{second}
-use Rattle.run_line.proofs.Answers.{by-refused, by-run}
+use Rattle.run_line.specs.Answer.{second, dayRunCases}
 use borrow.Author.Needs.{needs}
 use Rattle.run_line.proofs.day_run.Statement.{statement}
 use Rattle.run_line.proofs.day_run.Tie as tie
@@ -18,6 +20,9 @@ use Rattle.run_line.proofs.day_run.Tie as tie
 module _ (c : tie.After-write) where
   abbrev s : tie.Start
   s = c .before .before .before
+
+  abbrev cases : List Case
+  cases = dayRunCases (s .args .day) (s .args .count) (s .args .step) (length (now (s .args .buffer)))
 
   says : c .write .result ≡ runRefusal (s .args .day) 0 (s .args .count) (s .args .step * second) (length (now (s .args .buffer)))
   says = c .write .ensures .0 ∙ ap (λ (d : ℤ). runRefusal d 0 (s .args .count) (s .args .step * second) (length (now (s .args .buffer)))) (toZ-ofZ (s .fits .day))
@@ -35,9 +40,10 @@ same-length : tie.Need-same-length
 same-length c = search needs
 
 returns : tie.Need-returns
+unfolding runRefusal
 returns c =
     let w = c .before .before .before in
-    (ap Refused (says w) ∙ by-refused _ (s w .args .count) (λ e. c .if1 .taken (says w ∙ e)), fills w)
+    (ap Refused (says w) ∙ sym (refused-first Refused (cases w) _ (λ e. c .if1 .taken (says w ∙ e))), fills w)
 
 mul-t11 : tie.Need-mul-t11
 mul-t11 c =
@@ -48,9 +54,10 @@ same-length-2 : tie.Need-same-length-2
 same-length-2 c = search needs
 
 returns-2 : tie.Need-returns-2
+unfolding runRefusal
 returns-2 c =
     let w = c .before .before .before in
-    (by-run _ (s w .args .count) (sym (says w) ∙ c .if1 .left), fills w)
+    (sym (none-answered Refused (cases w) _ (first-none (cases w) tt (sym (says w) ∙ c .if1 .left))), fills w)
 
 pub day-run-spec : {M : Type 1} → statement M
 day-run-spec =

@@ -7,8 +7,8 @@ use mir.Facts.{toZ-ofZ}
 use borrow.Author.Needs.{needs}
 use Rattle.calendar.specs.declared.Acceptance.the-variants.{Accepted}
 use Rattle.calendar.specs.Instants.{acceptance}
-use Rattle.calendar.proofs.Index.{AcceptedAt, accepted-at}
-use Rattle.zonal.specs.declared.ZonalAnswer.the-variants.{Given}
+use Rattle.calendar.proofs.Index.{AcceptedAt, accepted-at, refused-too, answered-too}
+use Rattle.zonal.specs.declared.ZonalAnswer.the-variants.{Refused}
 use Rattle.zonal.specs.Ours.{zonalOf}
 use Rattle.zonal.proofs.zonal_of.Statement.{statement}
 use Rattle.zonal.proofs.zonal_of.Tie as tie
@@ -36,11 +36,11 @@ corrections-at-requires c κs = (omega (arith, known c .high), known c .less)
 
 returns : tie.Need-returns
 unfolding zonalOf
-returns c = rw (sym (says (c .before .before .before)) ∙ c .before .n .given .1)
+returns c = refused-too Refused _ _ _ (sym (says (c .before .before .before)) ∙ c .before .n .given .1)
 
 returns-2 : tie.Need-returns-2
 unfolding zonalOf
-returns-2 c = rw (found (c .before)) (ap Given (c .corrections-at .ensures))
+returns-2 c = rw (c .corrections-at .ensures, ← known (c .before) .index) (answered-too Refused _ _ _ (found (c .before)))
 
 pub zonal-of-spec : {M : Type 1} → statement M
 zonal-of-spec =

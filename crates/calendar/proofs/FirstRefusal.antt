@@ -1,0 +1,66 @@
+-- Laws of the refusals in their order. Assumes nothing.
+use Prim.Native.Nat.{ℕ}
+use mathlib.Core.Path.{_≡_, refl, ap}
+use mathlib.Core.Bool.{Bool, true, false, cond, _&&_}
+use mathlib.Core.List.{List, [], _∷_}
+use native.Mathlib.Omega.{arith}
+use lib.Dec.{T, ltb}
+use borrow.Author.Tests.{ltb-true}
+use Rattle.calendar.specs.Refusals.{Case, refusedOr, firstRefusal}
+
+-- no case applies
+abbrev pub NoneApplies : List Case → Type 0
+NoneApplies [] = Unit {0}
+NoneApplies (c ∷ cs) = (c .applies ≡ false) × NoneApplies cs
+
+-- The one case analysis: what holds of two answers at every refusal, and where no case applies.
+pub in-both : {A B : Type 0} (P : A → B → Type 0) (refuse : ℕ → A) (refuse′ : ℕ → B) (cs : List Case) (a : A) (b : B)
+    → ((n : ℕ) → P (refuse n) (refuse′ n)) → (NoneApplies cs → P a b) → P (refusedOr refuse cs a) (refusedOr refuse′ cs b)
+in-both P refuse refuse′ [] a b h k = k tt
+in-both P refuse refuse′ (c ∷ cs) a b h k = by (c .applies) refl (in-both P refuse refuse′ cs a b h)
+  where
+    by : (x : Bool) → c .applies ≡ x → ((NoneApplies cs → P a b) → P (refusedOr refuse cs a) (refusedOr refuse′ cs b))
+        → P (cond x (refuse (c .number)) (refusedOr refuse cs a)) (cond x (refuse′ (c .number)) (refusedOr refuse′ cs b))
+    by true p f = h (c .number)
+    by false p f = f (λ n. k (p, n))
+
+module _ {A : Type 0} (refuse : ℕ → A) where
+  pub in-each : (P : A → Type 0) (cs : List Case) (a : A) → ((n : ℕ) → P (refuse n)) → (NoneApplies cs → P a) → P (refusedOr refuse cs a)
+  in-each P cs a h k = in-both (λ (x y : A). P x) refuse refuse cs a a h k
+
+  -- a function that hands each refusal on leaves the cases as they are
+  pub handed-on : {B : Type 0} {refuse′ : ℕ → B} (g : A → B) → ((n : ℕ) → g (refuse n) ≡ refuse′ n) → (cs : List Case) (a : A)
+      → g (refusedOr refuse cs a) ≡ refusedOr refuse′ cs (g a)
+  handed-on {B} {refuse′} g h cs a = in-both (λ (x : A) (y : B). g x ≡ y) refuse refuse′ cs a (g a) h (λ _. refl)
+
+  -- one refusal by the same cases tells another
+  pub refused-alike : {B : Type 0} (refuse′ : ℕ → B) (cs : List Case) (a : A) (b : B) (n : ℕ) → ((k : ℕ) → refuse k ≡ refuse n → k ≡ n) → (a ≡ refuse n → ⊥)
+      → refusedOr refuse cs a ≡ refuse n → refusedOr refuse′ cs b ≡ refuse′ n
+  refused-alike {B} refuse′ cs a b n i h = in-both (λ (x : A) (y : B). x ≡ refuse n → y ≡ refuse′ n) refuse refuse′ cs a b (λ k e. ap refuse′ (i k e)) (λ _ e. absurd (h e))
+
+  -- what is no refusal is the answer, and no case applies
+  pub answered-none : (cs : List Case) (a b : A) → ((n : ℕ) → refuse n ≡ b → ⊥) → refusedOr refuse cs a ≡ b → NoneApplies cs × (a ≡ b)
+  answered-none cs a b h = in-each (λ (x : A). x ≡ b → NoneApplies cs × (a ≡ b)) cs a (λ n e. absurd (h n e)) (λ k e. (k, e))
+
+  -- where no case applies there is the answer
+  pub none-answered : (cs : List Case) (a : A) → NoneApplies cs → refusedOr refuse cs a ≡ a
+  none-answered [] a h = refl
+  none-answered (c ∷ cs) a h = rw (h .0) (none-answered cs a (h .1))
+
+  -- by the number of the first that applies
+  pub refused-first : (cs : List Case) (a : A) → (firstRefusal cs ≡ 0 → ⊥) → refusedOr refuse cs a ≡ refuse (firstRefusal cs)
+  refused-first cs a = in-both (λ (x : A) (k : ℕ). (k ≡ 0 → ⊥) → x ≡ refuse k) refuse (λ n. n) cs a 0 (λ n h. refl) (λ _ h. absurd (h refl))
+
+-- no number is 0
+abbrev pub numbered : List Case → Bool
+numbered [] = true
+numbered (c ∷ cs) = ltb 0 (c .number) && numbered cs
+
+pub first-none : (cs : List Case) → T (numbered cs) → firstRefusal cs ≡ 0 → NoneApplies cs
+first-none [] h e = tt
+first-none (c ∷ cs) h e = by (c .applies) refl (ltb 0 (c .number)) refl h e (first-none cs)
+  where
+    by : (b : Bool) → c .applies ≡ b → (x : Bool) → ltb 0 (c .number) ≡ x → T (x && numbered cs) → cond b (c .number) (firstRefusal cs) ≡ 0
+        → (T (numbered cs) → firstRefusal cs ≡ 0 → NoneApplies cs) → (c .applies ≡ false) × NoneApplies cs
+    by true p true q h e f = let v : ⊥ = omega (arith, ltb-true 0 (c .number) q) in absurd v
+    by false p true q h e f = (p, f h e)
