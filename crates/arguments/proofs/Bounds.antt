@@ -6,14 +6,10 @@ use native.Mathlib.Nat.{le-trans, mul-le-mul}
 use native.Mathlib.Omega.{arith}
 use lib.Dec.{lit≤}
 use lib.ListN.{getD}
-use Rattle.calendar.specs.Limits.{dayMicros}
 use Rattle.arguments.specs.declared.Half.{Half}
-use Rattle.arguments.specs.Ours.{moment, high, perCentury, term₃, term₂, term₁, halfAt, up₁, down₁, up₂, down₂, up₃, down₃, up₄, down₄, up₅, down₅, argument, ourArguments}
-use Rattle.arguments.specs.Inner.{daysCovered, latest, HalfBounds}
-
--- the moments of the days
-pub moment-le : (i m : ℕ) → i < daysCovered → m < dayMicros → moment i m ≤ latest
-moment-le i m hi hm = omega arith
+use Rattle.instants.specs.Moments.{latest}
+use Rattle.arguments.specs.Ours.{high, perCentury, term₃, term₂, term₁, halfAt, up₁, down₁, up₂, down₂, up₃, down₃, up₄, down₄, up₅, down₅, argument, ourArguments}
+use Rattle.arguments.specs.Inner.{HalfBounds}
 
 -- nine centuries and a little, with 24 binary places
 pub centuries-le : (x : ℕ) → x ≤ latest → high x perCentury ≤ 151200000

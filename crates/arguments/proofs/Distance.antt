@@ -11,19 +11,20 @@ use lib.Dec.{T, leb, leb→le, lit≤}
 use lib.ListN.{length, getD}
 use lib.IntN.{ℤ, pos, negℤ, _+ℤ_, _-ℤ_, _*ℤ_, natAbs}
 use lib.Signed.{leZ, leZ-yes}
-use Rattle.calendar.specs.Limits.{dayMicros}
+use Rattle.instants.specs.Limits.{dayMicros, daysCovered, indexOffset}
 use Rattle.algebra.specs.Integers.{+_, −_}
 use Rattle.algebra.proofs.Tests.{and-split, every, each}
-use Rattle.algebra.proofs.Ring.{end, _▸_, _▹_, ring, quote}
+use Rattle.algebra.proofs.Ring.{end, _▸_, ring, quote}
 use Rattle.algebra.proofs.Order.{≼-refl, ≼-add, nat-of, pos-sub}
 use Rattle.algebra.proofs.Near.{near-as, near-refl}
 use Rattle.algebra.proofs.Turns.{Turns, turns-of, turns-wide, turns-left, turns-add, turns-scale, turns-removed, mod-is, remainder-less}
 use Rattle.arguments.specs.declared.Half.{Half}
 use Rattle.arguments.specs.Table.{multipliers}
-use Rattle.arguments.specs.Exact.{sinceJ2000, century, Polynomial, value, F1, F2, F3, F4, F5, turn, turnParts, exactArguments, combination, exactAngle}
-use Rattle.arguments.specs.Ours.{moment, halfAt, up₁, down₁, up₂, down₂, up₃, down₃, up₄, down₄, up₅, down₅, argument, ourArguments, column, columns, ourAngle}
-use Rattle.arguments.specs.Inner.{daysCovered, latest}
-use Rattle.arguments.proofs.Bounds.{argument-less, moment-le}
+use Rattle.instants.specs.Moments.{sinceJ2000, century, moment, latest, since}
+use Rattle.arguments.specs.Exact.{Polynomial, value, F1, F2, F3, F4, F5, turn, turnParts, exactArguments, combination, exactAngle}
+use Rattle.arguments.specs.Ours.{halfAt, up₁, down₁, up₂, down₂, up₃, down₃, up₄, down₄, up₅, down₅, argument, ourArguments, column, columns, ourAngle}
+use Rattle.arguments.proofs.Bounds.{argument-less}
+use Rattle.instants.proofs.Moments.{moment-le, moment-is}
 use Rattle.arguments.proofs.Quartic.{argumentError, argument-near}
 
 -- the distance of each argument, and that of a row's angle, in units of 2^-41 turn
@@ -118,16 +119,13 @@ all-near x b =
     (more (Nat.le-of-lt (argument-less up₄ down₄ x)) (one century turn latest 20 up₄ down₄ F4 x b (lit≤ tt))
     (more (Nat.le-of-lt (argument-less up₅ down₅ x)) (one century turn latest 24 up₅ down₅ F5 x b (lit≤ tt)) none))))
 
--- n + 5 N
-pub moment-is : (i m : ℕ) → sinceJ2000 (pos i -ℤ pos 94553) m ≡ pos (moment i m) -ℤ pos 5 *ℤ pos century
-moment-is i m = ring (i ▹ m ▹ end) (search quote depth 13) tt
-
 -- On the day of index i and day number d, at the microsecond m, our angle of the row r and the exact one are within `angleDistance` units of
 -- 2^-41 turn, but for whole turns.
-pub angle-near : (d : ℤ) (i m r : ℕ) → d ≡ pos i -ℤ pos 94553 → i < daysCovered → m < dayMicros → r < length multipliers
+pub angle-near : (d : ℤ) (i m r : ℕ) → d ≡ pos i -ℤ pos indexOffset → i < daysCovered → m < dayMicros → r < length multipliers
     → Turns (2 ^ 41) turnParts (pos (ourAngle r (moment i m))) (pos (exactAngle r (sinceJ2000 d m))) angleDistance
+unfolding since
 angle-near d i m r hd hi hm hr =
-    subst (λ (n : ℤ). Turns (2 ^ 41) turnParts (pos (ourAngle r (moment i m))) (pos (exactAngle r n)) angleDistance) (sym (ap (λ (z : ℤ). sinceJ2000 z m) hd ∙ moment-is i m))
+    subst (λ (n : ℤ). Turns (2 ^ 41) turnParts (pos (ourAngle r (moment i m))) (pos (exactAngle r n)) angleDistance) (sym (moment-is d i m hd))
     (turns-wide (2 ^ 41) turnParts (leb→le (weight ks argumentDistances) angleDistance (t .1))
     (turns-removed (lit≤ tt) (combined ks (t .0) (all-near (moment i m) (moment-le i m hi hm)))))
   where

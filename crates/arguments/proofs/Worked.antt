@@ -4,8 +4,9 @@ use mathlib.Core.Path.{_≡_, refl}
 use mathlib.Core.List.{[], _∷_}
 use lib.IntN.{pow, one}
 use Rattle.algebra.specs.Integers.{+_}
-use Rattle.arguments.specs.Exact.{sinceJ2000, exactAngle}
-use Rattle.arguments.specs.Ours.{moment, ourArguments, ourAngle}
+use Rattle.instants.specs.Moments.{sinceJ2000, moment}
+use Rattle.arguments.specs.Exact.{exactAngle}
+use Rattle.arguments.specs.Ours.{ourArguments, ourAngle}
 
 five : ourArguments (moment 149018 0) ≡ 801882226400 ∷ 2174435311123 ∷ 1280255697211 ∷ 1593882452472 ∷ 2018172516421 ∷ []
 five = refl

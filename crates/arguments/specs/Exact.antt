@@ -2,19 +2,11 @@
 -- Assumes nothing.
 use mathlib.Core.List.{List, [], _∷_}
 use Prim.Native.Nat.{ℕ, _*_, _^_}
-use lib.IntN.{ℤ, pos, _+ℤ_, _-ℤ_, _*ℤ_, pow}
+use lib.IntN.{ℤ, pos, _+ℤ_, _*ℤ_, pow}
 use lib.ListN.{getD}
-use Rattle.calendar.specs.Limits.{dayMicros}
 use Rattle.algebra.specs.Integers.{+_, −_, remainder}
+use Rattle.instants.specs.Moments.{century}
 use Rattle.arguments.specs.Table.{multipliers}
-
--- n: the microseconds since J2000.0 of the day number d and the microseconds m of that day
-abbrev pub sinceJ2000 : ℤ → ℕ → ℤ
-sinceJ2000 d m = (d -ℤ + 51544) *ℤ pos dayMicros +ℤ pos m -ℤ + 43_200_000_000
-
--- N: the microseconds of a century; the centuries are n / N
-abbrev pub century : ℕ
-century = 3_155_760_000_000_000
 
 -- a polynomial's coefficients, from that of degree 0 on
 pub record Polynomial : Type 0 where

@@ -1,21 +1,13 @@
 -- What the code asks of its numbers so that nothing passes 64 bits.
 -- Assumes nothing.
 use mathlib.Core.Path.{_≡_}
-use Prim.Native.Nat.{ℕ, _-_, _^_, _≤_, _<_}
+use Prim.Native.Nat.{ℕ, _^_, _≤_, _<_}
 use lib.IntN.{ℤ}
 use lib.Signed.{_≤ℤ_}
-use Rattle.calendar.specs.Limits.{dayMicros}
 use Rattle.algebra.specs.Integers.{+_, −_}
 use Rattle.arguments.specs.declared.Half.{Half}
-use Rattle.arguments.specs.Ours.{moment, high, perCentury}
-
--- the days from 1600-01-01 to 2400-12-31: a day's index is below this
-abbrev pub daysCovered : ℕ
-daysCovered = 292560
-
--- the last moment of these days
-abbrev pub latest : ℕ
-latest = moment (daysCovered - 1) (dayMicros - 1)
+use Rattle.instants.specs.Moments.{latest}
+use Rattle.arguments.specs.Ours.{high, perCentury}
 
 -- the time x, the same in centuries with 24 binary places, and the constants of a half
 pub record HalfBounds (x s : ℕ) (k : Half) : Type 0 where

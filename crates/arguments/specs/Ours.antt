@@ -5,14 +5,9 @@ use mathlib.Core.List.{List, [], _∷_}
 use Prim.Native.Nat.{ℕ, _+_, _*_, _-_, _/_, _%_, _^_}
 use lib.IntN.{ℤ, _+ℤ_, natAbs}
 use lib.ListN.{getD}
-use Rattle.calendar.specs.Limits.{dayMicros}
 use Rattle.algebra.specs.Integers.{+_}
 use Rattle.arguments.specs.declared.Half.{Half}
 use Rattle.arguments.specs.Table.{multipliers}
-
--- x = n + 5 N, the microseconds since five centuries before J2000.0: of the day's index i, counted from 1600-01-01, and the microseconds m
-abbrev pub moment : ℕ → ℕ → ℕ
-moment i m = (i + 36527) * dayMicros + 43_200_000_000 + m
 
 -- the upper half of a product of two numbers of 64 bits
 abbrev pub high : ℕ → ℕ → ℕ

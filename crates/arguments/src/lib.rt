@@ -5,9 +5,9 @@ ghost use Prim.Native.Nat.{ℕ, _+_, _*_, _-_, _/_, _%_, _^_, _≤_, _<_};
 ghost use lib.ListN.{getD};
 ghost use mathlib.Core.List.{[]};
 ghost use Rattle.arguments.specs.Table.{multipliers};
-ghost use Rattle.calendar.specs.Limits.{dayMicros};
 ghost use Rattle.arguments.specs.Ours as ours;
-ghost use Rattle.arguments.specs.Inner.{daysCovered, latest, HalfBounds, Multiplier};
+ghost use Rattle.instants.specs.Moments.{latest};
+ghost use Rattle.arguments.specs.Inner.{HalfBounds, Multiplier};
 
 // The upper half of the product of two numbers of 64 bits, by halves of 32 bits.
 pub fn high(a: u64, b: u64) -> u64
@@ -20,14 +20,6 @@ pub fn high(a: u64, b: u64) -> u64
     let middle = a1 * b0 + a0 * b0 / 4294967296;
     let next = a0 * b1 + middle % 4294967296;
     a1 * b1 + middle / 4294967296 + next / 4294967296
-}
-
-// The microseconds since five centuries before J2000.0: of a day's index, counted from 1600-01-01, and the microseconds of that day.
-pub fn moment(index: u64, micros: u64) -> u64
-    requires { ⌜ (index < daysCovered) × (micros < dayMicros) ⌝ }
-    ensures { λ r. ⌜ r ≡ ours.moment index micros ⌝ }
-{
-    (index + 36527) * 86400000000 + 43200000000 + micros
 }
 
 // The constants of one half of an argument: its coefficients over the turn, to nearest, from the degree 0 to the degree 4.

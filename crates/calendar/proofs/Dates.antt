@@ -8,7 +8,7 @@ use native.Mathlib.Decide.{decLe}
 use lib.Dec.{ltb}
 use borrow.Author.Tests.{ltb-true, ltb-false}
 use Rattle.calendar.specs.declared.Date.{Date}
-use Rattle.calendar.specs.Dates.{monthLengths, sum, monthLength, daysOfYears, daysBefore, indexOf, next, dateAfter, date}
+use Rattle.calendar.specs.Dates.{monthLengths, sum, monthLength, daysOfYears, daysBefore, dateIndex, next, dateAfter, date}
 use Rattle.calendar.specs.Inner.{leapDay}
 use Rattle.calendar.proofs.Laws.{year-length}
 use Rattle.calendar.proofs.Months.{month-next, month-last, month-inside, month-some, month-apart}
@@ -24,7 +24,7 @@ pub record Valid (t : Date) : Type 0 where
 -- the day after a date is a date, one further
 record Steps (s t : Date) : Type 0 where
   valid : Valid t
-  more : indexOf t ≡ suc (indexOf s)
+  more : dateIndex t ≡ suc (dateIndex s)
 
 pub years-one : (k : ℕ) → daysOfYears (suc k) ≡ daysOfYears k + (365 + leapDay (1600 + k))
 unfolding daysOfYears
@@ -41,7 +41,7 @@ unfolding daysBefore sum monthLengths
 before-one y = refl
 
 step : (t : Date) → Valid t → Steps t (next t)
-unfolding next indexOf
+unfolding next dateIndex
 step t v = by-day (ltb (t .day) (monthLength (t .year) (t .month))) refl
   where
     by-month : (b : Bool) → monthLength (t .year) (t .month) ≤ t .day → ltb (t .month) 12 ≡ b → Steps t (cond b (date (t .year) (t .month + 1) 1) (date (t .year + 1) 1 1))
@@ -64,10 +64,10 @@ step t v = by-day (ltb (t .day) (monthLength (t .year) (t .month))) refl
 -- the date n days after 1600-01-01 is a date, and its index is n
 pub record Found (n : ℕ) (t : Date) : Type 0 where
   pub valid : Valid t
-  pub index : indexOf t ≡ n
+  pub index : dateIndex t ≡ n
 
-start-index : indexOf (date 1600 1 1) ≡ 0
-unfolding indexOf daysOfYears daysBefore sum monthLengths
+start-index : dateIndex (date 1600 1 1) ≡ 0
+unfolding dateIndex daysOfYears daysBefore sum monthLengths
 start-index = refl
 
 pub after : (n : ℕ) → Found n (dateAfter n)
@@ -93,8 +93,8 @@ years-apart y z h k =
     let o : daysOfYears (suc (y - 1600)) ≡ daysOfYears (y - 1600) + (365 + leapDay y) = years-one (y - 1600) ∙ ap (λ (k : ℕ). daysOfYears (y - 1600) + (365 + leapDay k)) f in
     omega arith
 
-same-year : (s t : Date) → Valid s → Valid t → indexOf s ≡ indexOf t → t .year ≤ s .year
-unfolding indexOf
+same-year : (s t : Date) → Valid s → Valid t → dateIndex s ≡ dateIndex t → t .year ≤ s .year
+unfolding dateIndex
 same-year s t v w e = by (decLe (t .year) (s .year))
   where
     by : Dec (t .year ≤ s .year) → t .year ≤ s .year
@@ -102,40 +102,40 @@ same-year s t v w e = by (decLe (t .year) (s .year))
     by (no p) = omega (arith, p, years-apart (s .year) (t .year) (v .late) (omega (arith, p)), month-inside (s .year) (s .month) (v .one) (v .twelve), v .first, v .last)
 
 -- s is of the same year as t
-same-month : (y m d k e : ℕ) → Valid (date y m d) → Valid (date y k e) → indexOf (date y m d) ≡ indexOf (date y k e) → k ≤ m
-unfolding indexOf
+same-month : (y m d k e : ℕ) → Valid (date y m d) → Valid (date y k e) → dateIndex (date y m d) ≡ dateIndex (date y k e) → k ≤ m
+unfolding dateIndex
 same-month y m d k e v w q = by (decLe k m)
   where
     by : Dec (k ≤ m) → k ≤ m
     by (yes p) = p
     by (no p) = omega (arith, p, month-apart y m k (v .one) (omega (arith, p)) (w .twelve), v .first, v .last, w .first)
 
-same-day : (y m d e : ℕ) → 1 ≤ d → 1 ≤ e → indexOf (date y m d) ≡ indexOf (date y m e) → d ≡ e
-unfolding indexOf
+same-day : (y m d e : ℕ) → 1 ≤ d → 1 ≤ e → dateIndex (date y m d) ≡ dateIndex (date y m e) → d ≡ e
+unfolding dateIndex
 same-day y m d e v w q = omega arith
 
-in-month : (y m d k e : ℕ) → m ≡ k → Valid (date y m d) → Valid (date y k e) → indexOf (date y m d) ≡ indexOf (date y k e) → date y m d ≡ date y k e
+in-month : (y m d k e : ℕ) → m ≡ k → Valid (date y m d) → Valid (date y k e) → dateIndex (date y m d) ≡ dateIndex (date y k e) → date y m d ≡ date y k e
 in-month y m d k e p v w q =
     let f : date y m d ≡ date y k d = ap (λ (i : ℕ). date y i d) p in
-    f ∙ ap (date y k) (same-day y k d e (v .first) (w .first) (ap indexOf (sym f) ∙ q))
+    f ∙ ap (date y k) (same-day y k d e (v .first) (w .first) (ap dateIndex (sym f) ∙ q))
 
-in-year : (y m d k e : ℕ) → Valid (date y m d) → Valid (date y k e) → indexOf (date y m d) ≡ indexOf (date y k e) → date y m d ≡ date y k e
+in-year : (y m d k e : ℕ) → Valid (date y m d) → Valid (date y k e) → dateIndex (date y m d) ≡ dateIndex (date y k e) → date y m d ≡ date y k e
 in-year y m d k e v w q = in-month y m d k e (le-antisymm (same-month y k e m d w v (sym q)) (same-month y m d k e v w q)) v w q
 
-pub unique : (s t : Date) → Valid s → Valid t → indexOf s ≡ indexOf t → s ≡ t
+pub unique : (s t : Date) → Valid s → Valid t → dateIndex s ≡ dateIndex t → s ≡ t
 unique s t v w q =
     let p : s .year ≡ t .year = le-antisymm (same-year t s w v (sym q)) (same-year s t v w q) in
     let f : s ≡ date (t .year) (s .month) (s .day) = ap (λ (y : ℕ). date y (s .month) (s .day)) p in
-    f ∙ in-year (t .year) (s .month) (s .day) (t .month) (t .day) (subst Valid f v) w (ap indexOf (sym f) ∙ q)
+    f ∙ in-year (t .year) (s .month) (s .day) (t .month) (t .day) (subst Valid f v) w (ap dateIndex (sym f) ∙ q)
 
 -- The date of an index is the date with that index: the two ways are inverse.
-pub after-index : (t : Date) → Valid t → dateAfter (indexOf t) ≡ t
-after-index t v = unique (dateAfter (indexOf t)) t (after (indexOf t) .valid) v (after (indexOf t) .index)
+pub after-index : (t : Date) → Valid t → dateAfter (dateIndex t) ≡ t
+after-index t v = unique (dateAfter (dateIndex t)) t (after (dateIndex t) .valid) v (after (dateIndex t) .index)
 
-pub index-low : (t : Date) → daysOfYears (t .year - 1600) ≤ indexOf t
-unfolding indexOf
+pub index-low : (t : Date) → daysOfYears (t .year - 1600) ≤ dateIndex t
+unfolding dateIndex
 index-low t = omega arith
 
-pub index-high : (t : Date) → Valid t → indexOf t < daysOfYears (t .year - 1600) + (365 + leapDay (t .year))
-unfolding indexOf
+pub index-high : (t : Date) → Valid t → dateIndex t < daysOfYears (t .year - 1600) + (365 + leapDay (t .year))
+unfolding dateIndex
 index-high t v = omega (arith, month-inside (t .year) (t .month) (v .one) (v .twelve), v .first, v .last)

@@ -7,7 +7,7 @@ use native.Mathlib.Nat.{le-antisymm, mod-eq-of-lt, mul-add-mod-self-left}
 use mir.Syntax.{w64}
 use mir.Val.{Fits}
 use native.Mathlib.Omega.{arith}
-use Rattle.calendar.specs.Dates.{daysOfYears, daysBefore, indexOf, dateAfter, date}
+use Rattle.calendar.specs.Dates.{daysOfYears, daysBefore, dateIndex, dateAfter, date}
 use Rattle.calendar.specs.Inner.{leapDay, monthAt, AtMost3, IsYearDay}
 use Rattle.calendar.specs.declared.YearDay.{YearDay}
 use Rattle.calendar.proofs.Dates.{unique, after}
@@ -115,8 +115,8 @@ pub month-of : (n : ℕ) (p : YearDay) (l m : ℕ) → IsYearDay n p → l ≡ l
 month-of n p l m h e f =
     subst (Has (p .year) (p .rest)) (sym (f ∙ ap (λ (k : ℕ). monthAt k (p .rest)) e)) (month-found (p .year) (p .rest) (h .inside))
 
-index-by : (y m d n e : ℕ) → daysBefore y m ≤ e → d ≡ e - daysBefore y m + 1 → daysOfYears (y - 1600) + e ≡ n → indexOf (date y m d) ≡ n
-unfolding indexOf
+index-by : (y m d n e : ℕ) → daysBefore y m ≤ e → d ≡ e - daysBefore y m + 1 → daysOfYears (y - 1600) + e ≡ n → dateIndex (date y m d) ≡ n
+unfolding dateIndex
 index-by y m d n e h q r = omega arith
 
 pub date-of : (n : ℕ) (p : YearDay) (m b : ℕ) → IsYearDay n p → Has (p .year) (p .rest) m → b ≡ daysBefore (p .year) m → date (p .year) m (p .rest - b + 1) ≡ dateAfter n

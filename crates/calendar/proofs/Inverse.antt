@@ -8,17 +8,18 @@ use native.Mathlib.Numerals.{add-one}
 use lib.Dec.{ltb}
 use lib.IntN.{ℤ, pos, _+ℤ_, natAbs, +ℤ-assoc, +ℤ-comm, -ℤ-+ℤ-cancel}
 use borrow.Author.Tests.{le-ltb, ltb-false}
-use Rattle.calendar.proofs.Cases.{no-case}
-use Rattle.calendar.proofs.FirstRefusal.{NoneApplies, none-answered, answered-none}
+use Rattle.instants.proofs.Impossible.{impossible}
+use Rattle.instants.proofs.FirstRefusal.{NoneApplies, none-answered, answered-none}
 use Rattle.calendar.specs.declared.Date.{Date}
 use Rattle.calendar.specs.declared.DayAnswer.the-variants.{Day, NoDay}
 use Rattle.calendar.specs.declared.DateAnswer.the-variants.{OnDate, NoDate}
 use Rattle.calendar.specs.Limits.{firstYear, lastYear}
-use Rattle.calendar.specs.Instants.{outside, indexAt}
-use Rattle.calendar.specs.Dates.{monthLength, daysOfYears, indexOf, next, dateAfter, date, numberOf, dateCases, dayOf, dayCases, dateOf}
+use Rattle.instants.specs.Instants.{outside, dayIndex, dayAtIndex}
+use Rattle.calendar.specs.Dates.{monthLength, daysOfYears, dateIndex, next, dateAfter, date, dateCases, dayOf, dayCases, dateOf}
 use Rattle.calendar.proofs.Dates.{Valid, Found, after, after-index, index-low, index-high, years-apart}
-use Rattle.calendar.proofs.Signs.{firstIndex, lastIndex}
-use Rattle.calendar.proofs.Index.{HasIndex, both-false, inside-index}
+use Rattle.instants.proofs.Signs.{firstIndex, lastIndex}
+use Rattle.instants.proofs.Accepted.{HasIndex, both-false, inside-index}
+use Rattle.instants.specs.Limits.{indexOffset}
 use Rattle.calendar.proofs.Laws.{years-counted}
 
 -- A date is accepted: its year is in range, its month 1..12, and its day one of that month's.
@@ -34,7 +35,7 @@ valid : (y m d : ℕ) → AcceptedDate y m d → Valid (date y m d)
 valid y m d a = record { late = omega (arith, a .from); one = a .one; twelve = a .twelve; first = a .first; last = a .last }
 
 -- PROMISE. An accepted date has its day number.
-pub accepted-day : (y m d : ℕ) → AcceptedDate y m d → dayOf y m d ≡ Day (numberOf (indexOf (date y m d)))
+pub accepted-day : (y m d : ℕ) → AcceptedDate y m d → dayOf y m d ≡ Day (dayAtIndex (dateIndex (date y m d)))
 unfolding dayOf
 accepted-day y m d a =
     simp (le-ltb y firstYear (a .from), le-ltb lastYear y (a .to), le-ltb m 1 (a .one), le-ltb 12 m (a .twelve), le-ltb d 1 (a .first), le-ltb (monthLength y m) d (a .last))
@@ -50,7 +51,7 @@ none-date y m d h =
 -- PROMISE. Only an accepted date has a day number.
 pub day-accepted : (y m d : ℕ) (z : ℤ) → dayOf y m d ≡ Day z → AcceptedDate y m d
 unfolding dayOf
-day-accepted y m d z e = none-date y m d (answered-none NoDay (dateCases y m d) _ (Day z) (λ n p. no-case (cc)) e .0)
+day-accepted y m d z e = none-date y m d (answered-none NoDay (dateCases y m d) _ (Day z) (λ n p. impossible (cc)) e .0)
 
 -- the days before the first year, and before the year after the last
 years-first : daysOfYears (firstYear - 1600) ≡ firstIndex
@@ -67,45 +68,45 @@ years-from y z h k = by (decLe z y)
     by (no p) = omega (arith, years-apart y z h (omega (arith, p)))
 
 -- the index of an accepted date
-index-range : (y m d : ℕ) → AcceptedDate y m d → (firstIndex ≤ indexOf (date y m d)) × (indexOf (date y m d) ≤ lastIndex)
+index-range : (y m d : ℕ) → AcceptedDate y m d → (firstIndex ≤ dateIndex (date y m d)) × (dateIndex (date y m d) ≤ lastIndex)
 index-range y m d a = (
   omega (arith, index-low (date y m d), years-from firstYear y (omega arith) (a .from), years-first),
   omega (arith, index-high (date y m d) (valid y m d a), years-apart y (suc lastYear) (omega (arith, a .from)) (omega (arith, a .to)), years-end),
 )
 
 -- the number of an index in range is in range, and has that index
-number-pos : (n : ℕ) → firstIndex ≤ n → numberOf n ≡ pos (n - 94553)
-unfolding numberOf
-number-pos n h = simp (le-ltb n 94553 (omega arith))
+number-pos : (n : ℕ) → firstIndex ≤ n → dayAtIndex n ≡ pos (n - indexOffset)
+unfolding dayAtIndex
+number-pos n h = simp (le-ltb n indexOffset (omega arith))
 
-number-inside : (n : ℕ) → firstIndex ≤ n → n ≤ lastIndex → outside (numberOf n) ≡ false
+number-inside : (n : ℕ) → firstIndex ≤ n → n ≤ lastIndex → outside (dayAtIndex n) ≡ false
 unfolding outside
-number-inside n h k = rw (number-pos n h) (simp (le-ltb (n - 94553) 15020 (omega arith), le-ltb 88433 (n - 94553) (omega arith)))
+number-inside n h k = rw (number-pos n h) (simp (le-ltb (n - indexOffset) 15020 (omega arith), le-ltb 88433 (n - indexOffset) (omega arith)))
 
-number-index : (n : ℕ) → firstIndex ≤ n → indexAt (numberOf n) ≡ n
-unfolding indexAt
-number-index n h = let b : n - 94553 + 94553 ≡ n = omega arith in rw (number-pos n h) b
+number-index : (n : ℕ) → firstIndex ≤ n → dayIndex (dayAtIndex n) ≡ n
+unfolding dayIndex
+number-index n h = let b : n - indexOffset + indexOffset ≡ n = omega arith in rw (number-pos n h) b
 
 -- PROMISE. The date of a date's day number is that date.
 pub there-and-back : (y m d : ℕ) (z : ℤ) → dayOf y m d ≡ Day z → dateOf z ≡ OnDate (date y m d)
 unfolding dateOf
 there-and-back y m d z e =
     let a : AcceptedDate y m d = day-accepted y m d z e in
-    let r : (firstIndex ≤ indexOf (date y m d)) × (indexOf (date y m d) ≤ lastIndex) = index-range y m d a in
-    let f : Day z ≡ Day (numberOf (indexOf (date y m d))) = sym e ∙ accepted-day y m d a in
-    let g : z ≡ numberOf (indexOf (date y m d)) = cc in
-    rw g (simp (number-inside (indexOf (date y m d)) (r .0) (r .1), number-index (indexOf (date y m d)) (r .0)) (ap OnDate (after-index (date y m d) (valid y m d a))))
+    let r : (firstIndex ≤ dateIndex (date y m d)) × (dateIndex (date y m d) ≤ lastIndex) = index-range y m d a in
+    let f : Day z ≡ Day (dayAtIndex (dateIndex (date y m d))) = sym e ∙ accepted-day y m d a in
+    let g : z ≡ dayAtIndex (dateIndex (date y m d)) = cc in
+    rw g (simp (number-inside (dateIndex (date y m d)) (r .0) (r .1), number-index (dateIndex (date y m d)) (r .0)) (ap OnDate (after-index (date y m d) (valid y m d a))))
 
 -- a day number with a date is in range
-pub date-range : (z : ℤ) (t : Date) → dateOf z ≡ OnDate t → (outside z ≡ false) × (t ≡ dateAfter (indexAt z))
+pub date-range : (z : ℤ) (t : Date) → dateOf z ≡ OnDate t → (outside z ≡ false) × (t ≡ dateAfter (dayIndex z))
 unfolding dateOf
 date-range z t e =
-    let r = answered-none NoDate (dayCases z) _ (OnDate t) (λ n p. no-case (cc)) e in
-    let g : OnDate (dateAfter (indexAt z)) ≡ OnDate t = r .1 in
+    let r = answered-none NoDate (dayCases z) _ (OnDate t) (λ n p. impossible (cc)) e in
+    let g : OnDate (dateAfter (dayIndex z)) ≡ OnDate t = r .1 in
     (r .0 .0, cc)
 
 -- a date whose index is in range is accepted
-in-range : (t : Date) → Valid t → firstIndex ≤ indexOf t → indexOf t ≤ lastIndex → AcceptedDate (t .year) (t .month) (t .day)
+in-range : (t : Date) → Valid t → firstIndex ≤ dateIndex t → dateIndex t ≤ lastIndex → AcceptedDate (t .year) (t .month) (t .day)
 in-range t v h k = record { from = from (decLe firstYear (t .year)); to = to (decLe (t .year) lastYear); one = v .one; twelve = v .twelve; first = v .first; last = v .last }
   where
     from : Dec (firstYear ≤ t .year) → firstYear ≤ t .year
@@ -118,33 +119,33 @@ in-range t v h k = record { from = from (decLe firstYear (t .year)); to = to (de
 
 -- PROMISE. The day number of a day number's date is that day number.
 pub back-and-there : (z : ℤ) (t : Date) → dateOf z ≡ OnDate t → dayOf (t .year) (t .month) (t .day) ≡ Day z
-unfolding numberOf
+unfolding dayAtIndex
 back-and-there z t e =
-    let r : (outside z ≡ false) × (t ≡ dateAfter (indexAt z)) = date-range z t e in
-    let h : HasIndex z (indexAt z) = inside-index z (r .0) in
-    let f : Found (indexAt z) (dateAfter (indexAt z)) = after (indexAt z) in
+    let r : (outside z ≡ false) × (t ≡ dateAfter (dayIndex z)) = date-range z t e in
+    let h : HasIndex z (dayIndex z) = inside-index z (r .0) in
+    let f : Found (dayIndex z) (dateAfter (dayIndex z)) = after (dayIndex z) in
     let v : Valid t = subst Valid (sym (r .1)) (f .valid) in
-    let x : indexOf t ≡ indexAt z = ap indexOf (r .1) ∙ f .index in
-    let n : numberOf (indexOf t) ≡ z = ap numberOf x ∙ sym (h .is) in
+    let x : dateIndex t ≡ dayIndex z = ap dateIndex (r .1) ∙ f .index in
+    let n : dayAtIndex (dateIndex t) ≡ z = ap dayAtIndex x ∙ sym (h .is) in
     accepted-day (t .year) (t .month) (t .day) (in-range t v (omega (arith, h .low, x)) (omega (arith, h .high, x))) ∙ ap Day n
 
 -- PROMISE. Every accepted day number has a date.
-pub has-date : (z : ℤ) → outside z ≡ false → dateOf z ≡ OnDate (dateAfter (indexAt z))
+pub has-date : (z : ℤ) → outside z ≡ false → dateOf z ≡ OnDate (dateAfter (dayIndex z))
 unfolding dateOf
 has-date z o = none-answered NoDate (dayCases z) _ (o, tt)
 
-next-index : (z : ℤ) → HasIndex z (indexAt z) → indexAt (z +ℤ pos 1) ≡ suc (indexAt z)
-unfolding indexAt
+next-index : (z : ℤ) → HasIndex z (dayIndex z) → dayIndex (z +ℤ pos 1) ≡ suc (dayIndex z)
+unfolding dayIndex
 next-index z h =
-    let u : z +ℤ pos 94553 ≡ pos (indexAt z) = ap (λ (x : ℤ). x +ℤ pos 94553) (h .is) ∙ -ℤ-+ℤ-cancel (pos (indexAt z)) (pos 94553) in
-    let e : (z +ℤ pos 1) +ℤ pos 94553 ≡ pos (indexAt z + 1) =
-    +ℤ-assoc z (pos 1) (pos 94553) ∙ (ap (λ (x : ℤ). z +ℤ x) (+ℤ-comm (pos 1) (pos 94553)) ∙ (sym (+ℤ-assoc z (pos 94553) (pos 1)) ∙ ap (λ (x : ℤ). x +ℤ pos 1) u)) in
-    ap natAbs e ∙ add-one (indexAt z)
+    let u : z +ℤ pos indexOffset ≡ pos (dayIndex z) = ap (λ (x : ℤ). x +ℤ pos indexOffset) (h .is) ∙ -ℤ-+ℤ-cancel (pos (dayIndex z)) (pos indexOffset) in
+    let e : (z +ℤ pos 1) +ℤ pos indexOffset ≡ pos (dayIndex z + 1) =
+    +ℤ-assoc z (pos 1) (pos indexOffset) ∙ (ap (λ (x : ℤ). z +ℤ x) (+ℤ-comm (pos 1) (pos indexOffset)) ∙ (sym (+ℤ-assoc z (pos indexOffset) (pos 1)) ∙ ap (λ (x : ℤ). x +ℤ pos 1) u)) in
+    ap natAbs e ∙ add-one (dayIndex z)
 
 -- PROMISE. The date of the next day number is the next date, month and year ends included.
 pub next-date : (z : ℤ) (t : Date) → dateOf z ≡ OnDate t → outside (z +ℤ pos 1) ≡ false → dateOf (z +ℤ pos 1) ≡ OnDate (next t)
 unfolding dateAfter
 next-date z t e o =
-    let r : (outside z ≡ false) × (t ≡ dateAfter (indexAt z)) = date-range z t e in
-    let s : indexAt (z +ℤ pos 1) ≡ suc (indexAt z) = next-index z (inside-index z (r .0)) in
+    let r : (outside z ≡ false) × (t ≡ dateAfter (dayIndex z)) = date-range z t e in
+    let s : dayIndex (z +ℤ pos 1) ≡ suc (dayIndex z) = next-index z (inside-index z (r .0)) in
     has-date (z +ℤ pos 1) o ∙ ap OnDate (ap dateAfter s ∙ ap next (sym (r .1)))

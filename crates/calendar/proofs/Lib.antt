@@ -1,11 +1,7 @@
-pub mod Cases
-pub mod FirstRefusal
 pub mod Laws
 pub mod Below
 pub mod Months
 pub mod Dates
 pub mod Groups
-pub mod Signs
-pub mod Index
 pub mod Inverse
 pub mod Times

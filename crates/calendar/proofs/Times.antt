@@ -4,16 +4,16 @@ use mathlib.Core.Path.{_≡_, sym}
 use mathlib.Core.List.{_++_}
 use native.Mathlib.Omega.{arith}
 use borrow.Author.Tests.{ltb-false}
-use Rattle.calendar.proofs.Cases.{no-case}
-use Rattle.calendar.proofs.FirstRefusal.{none-answered, answered-none}
-use Rattle.calendar.specs.declared.Instant.{Instant}
+use Rattle.instants.proofs.Impossible.{impossible}
+use Rattle.instants.proofs.FirstRefusal.{none-answered, answered-none}
+use Rattle.instants.specs.declared.Instant.{Instant}
 use Rattle.calendar.specs.declared.DayAnswer.the-variants.{Day, NoDay}
 use Rattle.calendar.specs.declared.InstantAnswer.the-variants.{AtInstant, NoInstant}
-use Rattle.calendar.specs.Limits.{dayMicros}
-use Rattle.calendar.specs.Instants.{instant, IsAccepted}
-use Rattle.calendar.specs.Dates.{date, indexOf, numberOf, dateCases, dayOf}
+use Rattle.instants.specs.Limits.{dayMicros}
+use Rattle.instants.specs.Instants.{instant, IsAccepted, dayAtIndex}
+use Rattle.calendar.specs.Dates.{date, dateIndex, dateCases, dayOf}
 use Rattle.calendar.specs.Times.{microsOfTime, timeCases, instantOf}
-use Rattle.calendar.proofs.Index.{accepted}
+use Rattle.instants.proofs.Accepted.{accepted}
 use Rattle.calendar.proofs.Inverse.{there-and-back, date-range}
 
 time-less : (h n s u : ℕ) → h ≤ 23 → n ≤ 59 → s ≤ 59 → u ≤ 999999 → microsOfTime h n s u < dayMicros
@@ -23,8 +23,8 @@ time-less h n s u p q r w = omega arith
 pub instant-accepted : (y m d h n s u : ℕ) (t : Instant) → instantOf y m d h n s u ≡ AtInstant t → (dayOf y m d ≡ Day (t .day)) × IsAccepted (t .day) (t .micros)
 unfolding instantOf dayOf
 instant-accepted y m d h n s u t e =
-    let z = numberOf (indexOf (date y m d)) in
-    let r = answered-none NoInstant (dateCases y m d ++ timeCases h n s u) (AtInstant (instant z (microsOfTime h n s u))) (AtInstant t) (λ n p. no-case (cc)) e in
+    let z = dayAtIndex (dateIndex (date y m d)) in
+    let r = answered-none NoInstant (dateCases y m d ++ timeCases h n s u) (AtInstant (instant z (microsOfTime h n s u))) (AtInstant t) (λ n p. impossible (cc)) e in
     let g : AtInstant (instant z (microsOfTime h n s u)) ≡ AtInstant t = r .1 in
     let i : instant z (microsOfTime h n s u) ≡ t = cc in
     let f : dayOf y m d ≡ Day z = none-answered NoDay (dateCases y m d) (Day z) (r .0 .0, (r .0 .1 .0, (r .0 .1 .1 .0, tt))) in

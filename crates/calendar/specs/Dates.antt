@@ -3,11 +3,11 @@ use Prim.Native.Nat.{ℕ, zero, suc, _+_, _-_, _%_}
 use mathlib.Core.Bool.{Bool, cond, not, _&&_, _||_}
 use mathlib.Core.List.{List, [], _∷_}
 use lib.Dec.{eqb, ltb}
-use lib.IntN.{ℤ, pos, _-ℤ_}
+use lib.IntN.{ℤ, pos}
 use lib.ListN.{take, getD}
 use Rattle.calendar.specs.Limits.{firstYear, lastYear}
-use Rattle.calendar.specs.Refusals.{Case, case, refusedOr}
-use Rattle.calendar.specs.Instants.{outside, indexAt}
+use Rattle.instants.specs.Refusals.{Case, case, refusedOr}
+use Rattle.instants.specs.Instants.{outside, dayIndex, dayAtIndex}
 use Rattle.calendar.specs.declared.Date.{Date}
 use Rattle.calendar.specs.declared.DayAnswer.{DayAnswer}
 use Rattle.calendar.specs.declared.DayAnswer.the-variants.{Day, NoDay}
@@ -47,12 +47,8 @@ unfoldable pub daysBefore : ℕ → ℕ → ℕ
 daysBefore y m = sum (take (m - 1) (monthLengths (leapYear y)))
 
 -- the days from 1600-01-01 to a date
-unfoldable pub indexOf : Date → ℕ
-indexOf t = daysOfYears (t .year - 1600) + daysBefore (t .year) (t .month) + (t .day - 1)
-
--- the day number of the index n
-unfoldable pub numberOf : ℕ → ℤ
-numberOf n = pos n -ℤ pos 94553
+unfoldable pub dateIndex : Date → ℕ
+dateIndex t = daysOfYears (t .year - 1600) + daysBefore (t .year) (t .month) + (t .day - 1)
 
 -- the day after a date
 unfoldable pub next : Date → Date
@@ -76,7 +72,7 @@ dateCases y m d =
 
 -- a date's day number, or its refusal
 unfoldable pub dayOf : (y m d : ℕ) → DayAnswer
-dayOf y m d = refusedOr NoDay (dateCases y m d) (Day (numberOf (indexOf (date y m d))))
+dayOf y m d = refusedOr NoDay (dateCases y m d) (Day (dayAtIndex (dateIndex (date y m d))))
 
 -- the refusal of a day number
 abbrev pub dayCases : ℤ → List Case
@@ -84,16 +80,16 @@ dayCases z = case 8 (outside z) ∷ []
 
 -- a day number's date, or its refusal
 unfoldable pub dateOf : ℤ → DateAnswer
-dateOf z = refusedOr NoDate (dayCases z) (OnDate (dateAfter (indexAt z)))
+dateOf z = refusedOr NoDate (dayCases z) (OnDate (dateAfter (dayIndex z)))
 
 -- the numbers that the exported calls give for an answer: 0 for success, and zeros beside a refusal
 abbrev pub dayNumberOf : DayAnswer → ℤ
 dayNumberOf (Day d) = d
 dayNumberOf (NoDay n) = pos 0
 
-abbrev pub dayRefusalOf : DayAnswer → ℕ
-dayRefusalOf (Day d) = 0
-dayRefusalOf (NoDay n) = n
+abbrev pub dateRefusalOf : DayAnswer → ℕ
+dateRefusalOf (Day d) = 0
+dateRefusalOf (NoDay n) = n
 
 abbrev pub yearOf : DateAnswer → ℕ
 yearOf (OnDate t) = t .year
@@ -107,6 +103,6 @@ abbrev pub dayOfMonthOf : DateAnswer → ℕ
 dayOfMonthOf (OnDate t) = t .day
 dayOfMonthOf (NoDate n) = 0
 
-abbrev pub dateRefusalOf : DateAnswer → ℕ
-dateRefusalOf (OnDate t) = 0
-dateRefusalOf (NoDate n) = n
+abbrev pub dayRefusalOf : DateAnswer → ℕ
+dayRefusalOf (OnDate t) = 0
+dayRefusalOf (NoDate n) = n

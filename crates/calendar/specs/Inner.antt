@@ -5,23 +5,17 @@ use mathlib.Core.Bool.{cond}
 use mathlib.Core.Logic.{_⊎_}
 use lib.Dec.{ltb}
 use lib.IntN.{ℤ}
-use Rattle.calendar.specs.Refusals.{refusedOr}
-use Rattle.calendar.specs.Instants.{instant, outside, indexAt}
+use Rattle.instants.specs.Refusals.{refusedOr}
+use Rattle.instants.specs.Instants.{instant}
 use Rattle.calendar.specs.Dates.{leapYear, daysOfYears}
 use Rattle.calendar.specs.Times.{microsOfTime, timeCases}
 use Rattle.calendar.specs.declared.InstantAnswer.{InstantAnswer}
 use Rattle.calendar.specs.declared.InstantAnswer.the-variants.{AtInstant, NoInstant}
-use Rattle.calendar.specs.declared.DayIndex.{DayIndex}
-use Rattle.calendar.specs.declared.DayIndex.the-variants.{At, Outside}
 use Rattle.calendar.specs.declared.YearDay.{YearDay}
 
 -- a leap year's extra day
 unfoldable pub leapDay : ℕ → ℕ
 leapDay y = cond (leapYear y) 1 0
-
--- a day number's index, or that it is outside the range
-unfoldable pub dayIndex : ℤ → DayIndex
-dayIndex z = cond (outside z) Outside (At (indexAt z))
 
 -- the instant of a time on the day d, or the time's refusal
 unfoldable pub timeOf : ℤ → (hour minute second microsecond : ℕ) → InstantAnswer

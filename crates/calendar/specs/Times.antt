@@ -3,9 +3,9 @@ use Prim.Native.Nat.{ℕ, _+_, _*_}
 use mathlib.Core.List.{List, [], _∷_, _++_}
 use lib.Dec.{ltb}
 use lib.IntN.{ℤ, pos}
-use Rattle.calendar.specs.Refusals.{Case, case, refusedOr}
-use Rattle.calendar.specs.Instants.{instant}
-use Rattle.calendar.specs.Dates.{date, indexOf, numberOf, dateCases}
+use Rattle.instants.specs.Refusals.{Case, case, refusedOr}
+use Rattle.instants.specs.Instants.{instant, dayAtIndex}
+use Rattle.calendar.specs.Dates.{date, dateIndex, dateCases}
 use Rattle.calendar.specs.declared.InstantAnswer.{InstantAnswer}
 use Rattle.calendar.specs.declared.InstantAnswer.the-variants.{AtInstant, NoInstant}
 
@@ -21,7 +21,7 @@ timeCases hour minute second microsecond = case 4 (ltb 23 hour) ∷ case 5 (ltb 
 unfoldable pub instantOf : (year month day hour minute second microsecond : ℕ) → InstantAnswer
 instantOf year month day hour minute second microsecond =
     refusedOr NoInstant (dateCases year month day ++ timeCases hour minute second microsecond)
-    (AtInstant (instant (numberOf (indexOf (date year month day))) (microsOfTime hour minute second microsecond)))
+    (AtInstant (instant (dayAtIndex (dateIndex (date year month day))) (microsOfTime hour minute second microsecond)))
 
 -- the numbers that the exported calls give for an answer
 abbrev pub instantDayOf : InstantAnswer → ℤ

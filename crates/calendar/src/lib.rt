@@ -1,31 +1,21 @@
-// Dates, day numbers (MJD), instants and times of day.
+// Dates and day numbers (MJD), and times of day.
+use instants::IndexAnswer;
+use instants::Instant;
 ghost use mathlib.Core.Path.{_≡_};
 ghost use Prim.Native.Nat.{_+_, _≤_, _<_};
-ghost use Rattle.calendar.specs.Instants.{acceptance};
-ghost use Rattle.calendar.specs.Dates.{monthLength, daysOfYears, daysBefore, dateAfter, numberOf, dayOf, dateOf};
+ghost use Rattle.calendar.specs.Dates.{monthLength, daysOfYears, daysBefore, dateAfter, dayOf, dateOf};
 ghost use Rattle.calendar.specs.Times.{instantOf};
-ghost use Rattle.calendar.specs.Inner.{leapDay, dayIndex, timeOf, monthAt, AtMost3, IsYearDay};
+ghost use Rattle.calendar.specs.Inner.{leapDay, timeOf, monthAt, AtMost3, IsYearDay};
 
-// The limits, each in this one place.
+// The years of a date.
 const FIRST_YEAR: u64 = 1900;
 
 const LAST_YEAR: u64 = 2100;
-
-const FIRST_DAY: i64 = 15020;
-
-const LAST_DAY: i64 = 88433;
-
-const DAY_MICROS: u64 = 86400000000;
 
 pub struct Date {
     pub year: u64,
     pub month: u64,
     pub day: u64,
-}
-
-pub struct Instant {
-    pub day: i64,
-    pub micros: u64,
 }
 
 pub enum DayAnswer {
@@ -41,17 +31,6 @@ pub enum DateAnswer {
 pub enum InstantAnswer {
     AtInstant(Instant),
     NoInstant(u32),
-}
-
-// The index of an accepted instant's day, or refusal 8 or 9.
-pub enum Acceptance {
-    Accepted(u64),
-    NotAccepted(u32),
-}
-
-enum DayIndex {
-    At(u64),
-    Outside,
 }
 
 // A year from 1600 on, and a day of it, counted from 0.
@@ -112,13 +91,6 @@ fn before(y: u64, m: u64) -> u64
     BEFORE[i] + leap(y)
 }
 
-fn number(n: u64) -> i64
-    requires { ⌜ n < 1000000 ⌝ }
-    ensures { λ r. ⌜ r ≡ numberOf n ⌝ }
-{
-    (n as i64) - 94553
-}
-
 // The day number of a date, or refusal 1, 2 or 3.
 pub fn day_of(year: u64, month: u64, day: u64) -> DayAnswer
     ensures { λ r. ⌜ r ≡ dayOf year month day ⌝ }
@@ -141,7 +113,7 @@ pub fn day_of(year: u64, month: u64, day: u64) -> DayAnswer
     if month_length(year, month) < day {
         return DayAnswer::NoDay(3);
     }
-    DayAnswer::Day(number(years(year - 1600) + before(year, month) + (day - 1)))
+    DayAnswer::Day(instants::day_at_index(years(year - 1600) + before(year, month) + (day - 1)))
 }
 
 // The month of the day e of a year, counted from 0.
@@ -155,7 +127,7 @@ fn month(leap: u64, e: u64) -> u64
     (12 * (e + 2 - leap) + 373) / 367
 }
 
-// At most 3.
+// AtIndex most 3.
 fn capped(x: u64) -> u64
     ensures { λ r. ⌜ AtMost3 x r ⌝ }
 {
@@ -195,40 +167,14 @@ fn date_after(n: u64) -> Date
     }
 }
 
-// A day number's index from 1600-01-01. The one place where a day number's sign is looked at.
-fn day_index(day: i64) -> DayIndex
-    ensures { λ r. ⌜ r ≡ dayIndex day ⌝ }
-{
-    if day < FIRST_DAY {
-        return DayIndex::Outside;
-    }
-    if LAST_DAY < day {
-        return DayIndex::Outside;
-    }
-    DayIndex::At((day + 94553) as u64)
-}
-
 // The date of a day number, or refusal 8.
 pub fn date_of(day: i64) -> DateAnswer
     ensures { λ r. ⌜ r ≡ dateOf day ⌝ }
 {
-    match day_index(day) {
-        DayIndex::Outside => DateAnswer::NoDate(8),
-        DayIndex::At(n) => DateAnswer::OnDate(date_after(n)),
+    match instants::day_index(day) {
+        IndexAnswer::NoIndex => DateAnswer::NoDate(8),
+        IndexAnswer::AtIndex(n) => DateAnswer::OnDate(date_after(n)),
     }
-}
-
-// Whether an instant is accepted: the index of its day, or refusal 8 or 9. Every service asks here.
-pub fn accept(day: i64, micros: u64) -> Acceptance
-    ensures { λ r. ⌜ r ≡ acceptance day micros ⌝ }
-{
-    let DayIndex::At(n) = day_index(day) else {
-        return Acceptance::NotAccepted(8);
-    };
-    if DAY_MICROS <= micros {
-        return Acceptance::NotAccepted(9);
-    }
-    Acceptance::Accepted(n)
 }
 
 // The instant of a time on a day, or refusal 4, 5, 6 or 7.

@@ -6,12 +6,13 @@ use native.Mathlib.Omega.{arith}
 use lib.Dec.{ltb}
 use lib.IntN.{ℤ, pos, negsuc, _-ℤ_}
 use borrow.Author.Tests.{ltb-true, ltb-false}
+use Rattle.instants.specs.Limits.{indexOffset}
 use Rattle.clock.specs.Words.{mark}
 
--- -94553 is 7 modulo 8
-pub mark-index : (d : ℤ) (i : ℕ) → d ≡ pos i -ℤ pos 94553 → mark d ≡ (i + 7) % 8
-mark-index d i e = ap mark e ∙ by (ltb i 94553) refl
+-- -indexOffset is 7 modulo 8
+pub mark-index : (d : ℤ) (i : ℕ) → d ≡ pos i -ℤ pos indexOffset → mark d ≡ (i + 7) % 8
+mark-index d i e = ap mark e ∙ by (ltb i indexOffset) refl
   where
-    by : (t : Bool) → ltb i 94553 ≡ t → mark (cond t (negsuc (94553 - suc i)) (pos (i - 94553))) ≡ (i + 7) % 8
-    by true p = let h : i < 94553 = ltb-true i 94553 p in omega arith
-    by false p = let h : 94553 ≤ i = ltb-false i 94553 p in omega arith
+    by : (t : Bool) → ltb i indexOffset ≡ t → mark (cond t (negsuc (indexOffset - suc i)) (pos (i - indexOffset))) ≡ (i + 7) % 8
+    by true p = let h : i < indexOffset = ltb-true i indexOffset p in omega arith
+    by false p = let h : indexOffset ≤ i = ltb-false i indexOffset p in omega arith

@@ -6,12 +6,12 @@ use native.Mathlib.Omega.{arith}
 use lib.Dec.{ltb}
 use lib.IntN.{ℤ, pos, negsuc, negℤ, _+ℤ_, _-ℤ_, natAbs, negℤ-+ℤ, +ℤ-comm, +ℤ-assoc, +ℤ-invr, +ℤ-idl, -ℤ-+ℤ-cancel}
 use borrow.Author.Tests.{eq-eqb, ne-eqb, ltb-true, ltb-false, eqb-true}
-use Rattle.calendar.proofs.Cases.{no-case}
-use Rattle.calendar.specs.declared.Instant.{Instant}
-use Rattle.calendar.specs.Limits.{dayMicros}
-use Rattle.calendar.specs.Instants.{instant, indexAt, instantCases, IsAccepted}
-use Rattle.calendar.proofs.FirstRefusal.{answered-none}
-use Rattle.calendar.proofs.Index.{AcceptedAt, accepted-at, none-accepted, accepted, answered-too}
+use Rattle.instants.proofs.Impossible.{impossible}
+use Rattle.instants.specs.declared.Instant.{Instant}
+use Rattle.instants.specs.Limits.{dayMicros, indexOffset}
+use Rattle.instants.specs.Instants.{instant, dayIndex, instantCases, IsAccepted}
+use Rattle.instants.proofs.FirstRefusal.{answered-none}
+use Rattle.instants.proofs.Accepted.{AcceptedAt, accepted-at, none-accepted, accepted, answered-too}
 use Rattle.clock.specs.declared.ClockWords.{ClockWords}
 use Rattle.clock.specs.declared.SplitAnswer.the-variants.{Split, NoSplit}
 use Rattle.clock.specs.declared.JoinAnswer.the-variants.{Joined, NoJoin}
@@ -26,13 +26,13 @@ high-part m k h = omega arith
 
 -- what it means that an instant was split
 pub record WasSplit (d : ℤ) (m : ℕ) (w : ClockWords) : Type 0 where
-  pub accepted : AcceptedAt d m (indexAt d)
+  pub accepted : AcceptedAt d m (dayIndex d)
   pub is : w ≡ words d (timeWord d m)
 
 pub was-split : (d : ℤ) (m : ℕ) (w : ClockWords) → splitOf d m ≡ Split w → WasSplit d m w
 unfolding splitOf
 was-split d m w e =
-    let r = answered-none NoSplit (instantCases d m) (Split (words d (timeWord d m))) (Split w) (λ n p. no-case (cc)) e in
+    let r = answered-none NoSplit (instantCases d m) (Split (words d (timeWord d m))) (Split w) (λ n p. impossible (cc)) e in
     let g : Split (words d (timeWord d m)) ≡ Split w = r .1 in
     record { accepted = none-accepted d m (r .0); is = cc }
 
@@ -43,26 +43,26 @@ split-accepted d m a = sym (answered-too NoSplit _ d m a)
 
 -- what it means that two words were joined
 pub record WasJoined (d : ℤ) (t : ℕ) (i : Instant) : Type 0 where
-  pub accepted : AcceptedAt d (t % markUnit) (indexAt d)
+  pub accepted : AcceptedAt d (t % markUnit) (dayIndex d)
   pub marked : t / markUnit ≡ mark d
   pub is : i ≡ instant d (t % markUnit)
 
 pub was-joined : (d : ℤ) (t : ℕ) (i : Instant) → joinOf d t ≡ Joined i → WasJoined d t i
 unfolding joinOf
 was-joined d t i e =
-    let r = answered-none NoJoin (joinCases d t) (Joined (instant d (t % markUnit))) (Joined i) (λ n p. no-case (cc)) e in
+    let r = answered-none NoJoin (joinCases d t) (Joined (instant d (t % markUnit))) (Joined i) (λ n p. impossible (cc)) e in
     let g : Joined (instant d (t % markUnit)) ≡ Joined i = r .1 in
     record { accepted = none-accepted d (t % markUnit) (r .0 .0, (r .0 .1 .0, tt)); marked = eqb-true _ _ (not-false _ (r .0 .1 .1 .0)); is = cc }
   where
     not-false : (b : Bool) → not b ≡ false → b ≡ true
     not-false true p = refl
-    not-false false p = no-case (cc)
+    not-false false p = impossible (cc)
 
 -- PROMISE. Splitting an accepted instant and joining the words gives the instant back.
 pub split-then-join : (d : ℤ) (m : ℕ) → IsAccepted d m → joinOf d (timeWord d m) ≡ Joined (instant d m)
 unfolding joinOf
 split-then-join d m a =
-    let k : AcceptedAt d m (indexAt d) = accepted-at d m (indexAt d) a in
+    let k : AcceptedAt d m (dayIndex d) = accepted-at d m (dayIndex d) a in
     simp (low-part m (mark d) (k .less), high-part m (mark d) (k .less), k .inside, k .within, eq-eqb (mark d) (mark d) refl)
 
 -- PROMISE. Words that are joined are those that their instant is split into.
@@ -88,18 +88,18 @@ distance a b false p h = let q : b ≤ a = ltb-false a b p in (omega arith, omeg
 same-index : (a b : ℕ) → a < b + 8 → b < a + 8 → (a + 7) % 8 ≡ (b + 7) % 8 → a ≡ b
 same-index a b h k e = omega arith
 
-up : (d : ℤ) (i : ℕ) → d ≡ pos i -ℤ pos 94553 → d +ℤ pos 94553 ≡ pos i
-up d i e = ap (λ (x : ℤ). x +ℤ pos 94553) e ∙ -ℤ-+ℤ-cancel (pos i) (pos 94553)
+up : (d : ℤ) (i : ℕ) → d ≡ pos i -ℤ pos indexOffset → d +ℤ pos indexOffset ≡ pos i
+up d i e = ap (λ (x : ℤ). x +ℤ pos indexOffset) e ∙ -ℤ-+ℤ-cancel (pos i) (pos indexOffset)
 
-apart : (d e : ℤ) (i j : ℕ) → d ≡ pos i -ℤ pos 94553 → e ≡ pos (suc j) -ℤ pos 94553 → natAbs (d -ℤ e) < 8 → natAbs (pos i -ℤ pos (suc j)) < 8
-apart d e i j p q n = subst (λ (x : ℤ). natAbs x < 8) (sym (shift d e (pos 94553)) ∙ (ap (λ (x : ℤ). x -ℤ (e +ℤ pos 94553)) (up d i p) ∙ ap (λ (x : ℤ). pos i -ℤ x) (up e (suc j) q))) n
+apart : (d e : ℤ) (i j : ℕ) → d ≡ pos i -ℤ pos indexOffset → e ≡ pos (suc j) -ℤ pos indexOffset → natAbs (d -ℤ e) < 8 → natAbs (pos i -ℤ pos (suc j)) < 8
+apart d e i j p q n = subst (λ (x : ℤ). natAbs x < 8) (sym (shift d e (pos indexOffset)) ∙ (ap (λ (x : ℤ). x -ℤ (e +ℤ pos indexOffset)) (up d i p) ∙ ap (λ (x : ℤ). pos i -ℤ x) (up e (suc j) q))) n
 
-same-mark : (d e : ℤ) (i j : ℕ) → 1 ≤ j → d ≡ pos i -ℤ pos 94553 → e ≡ pos j -ℤ pos 94553 → natAbs (d -ℤ e) < 8 → mark e ≡ mark d → d ≡ e
+same-mark : (d e : ℤ) (i j : ℕ) → 1 ≤ j → d ≡ pos i -ℤ pos indexOffset → e ≡ pos j -ℤ pos indexOffset → natAbs (d -ℤ e) < 8 → mark e ≡ mark d → d ≡ e
 same-mark d e i zero l p q n m = let v : ⊥ = omega arith in absurd v
 same-mark d e i (suc j) l p q n m =
     let r : (i < suc j + 8) × (suc j < i + 8) = distance i (suc j) (ltb i (suc j)) refl (apart d e i j p q n) in
     let k : i ≡ suc j = same-index i (suc j) (r .0) (r .1) (sym (mark-index d i p) ∙ (sym m ∙ mark-index e (suc j) q)) in
-    p ∙ (ap (λ (x : ℕ). pos x -ℤ pos 94553) k ∙ sym q)
+    p ∙ (ap (λ (x : ℕ). pos x -ℤ pos indexOffset) k ∙ sym q)
 
 -- what joining the day word of the day d with the time word of the moment m of the day e gives
 pub record JoinedExactly (d e : ℤ) (m : ℕ) : Type 0 where
@@ -111,8 +111,8 @@ pub record JoinedExactly (d e : ℤ) (m : ℕ) : Type 0 where
 pub joined-exactly : (d e : ℤ) (k m : ℕ) → IsAccepted d k → IsAccepted e m → natAbs (d -ℤ e) < 8 → JoinedExactly d e m
 unfolding joinOf
 joined-exactly d e k m a b n =
-    let p : AcceptedAt d k (indexAt d) = accepted-at d k (indexAt d) a in
-    let q : AcceptedAt e m (indexAt e) = accepted-at e m (indexAt e) b in
+    let p : AcceptedAt d k (dayIndex d) = accepted-at d k (dayIndex d) a in
+    let q : AcceptedAt e m (dayIndex e) = accepted-at e m (dayIndex e) b in
     record {
       same = λ s. subst (λ (x : ℤ). joinOf x (timeWord e m) ≡ Joined (instant e m)) (sym s) (split-then-join e m b);
       other = λ x.
@@ -121,6 +121,6 @@ joined-exactly d e k m a b n =
             high-part m (mark e) (q .less),
             p .inside,
             q .within,
-            ne-eqb (mark e) (mark d) (λ f. x (same-mark d e (indexAt d) (indexAt e) (omega (arith, q .low)) (p .is) (q .is) n f)),
+            ne-eqb (mark e) (mark d) (λ f. x (same-mark d e (dayIndex d) (dayIndex e) (omega (arith, q .low)) (p .is) (q .is) n f)),
           );
     }

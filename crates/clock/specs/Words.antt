@@ -4,8 +4,8 @@ use mathlib.Core.Bool.{not}
 use mathlib.Core.List.{List, [], _∷_, _++_}
 use lib.Dec.{eqb}
 use lib.IntN.{ℤ, pos, negsuc}
-use Rattle.calendar.specs.Refusals.{Case, case, refusedOr}
-use Rattle.calendar.specs.Instants.{instant, instantCases}
+use Rattle.instants.specs.Refusals.{Case, case, refusedOr}
+use Rattle.instants.specs.Instants.{instant, instantCases}
 use Rattle.clock.specs.declared.ClockWords.{ClockWords}
 use Rattle.clock.specs.declared.SplitAnswer.{SplitAnswer}
 use Rattle.clock.specs.declared.SplitAnswer.the-variants.{Split, NoSplit}

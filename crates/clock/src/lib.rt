@@ -1,6 +1,6 @@
 // An instant split into a day word and a time word, and the two joined again.
-use calendar::Acceptance;
-use calendar::Instant;
+use instants::Acceptance;
+use instants::Instant;
 ghost use mathlib.Core.Path.{_≡_};
 ghost use Rattle.clock.specs.Words.{splitOf, joinOf};
 
@@ -26,7 +26,7 @@ pub enum JoinAnswer {
 pub fn split(day: i64, micros: u64) -> SplitAnswer
     ensures { λ r. ⌜ r ≡ splitOf day micros ⌝ }
 {
-    match calendar::accept(day, micros) {
+    match instants::accept(day, micros) {
         Acceptance::NotAccepted(n) => SplitAnswer::NoSplit(n),
         Acceptance::Accepted(i) => SplitAnswer::Split(ClockWords {
             day: day,
@@ -40,7 +40,7 @@ pub fn join(day: i64, time: u64) -> JoinAnswer
     ensures { λ r. ⌜ r ≡ joinOf day time ⌝ }
 {
     let micros = time % MARK_UNIT;
-    match calendar::accept(day, micros) {
+    match instants::accept(day, micros) {
         Acceptance::NotAccepted(n) => JoinAnswer::NoJoin(n),
         Acceptance::Accepted(i) => {
             if time / MARK_UNIT != (i + 7) % 8 {

@@ -3,7 +3,7 @@ use calendar::DateAnswer;
 use calendar::DayAnswer;
 use calendar::InstantAnswer;
 ghost use mathlib.Core.Path.{_≡_};
-ghost use Rattle.calendar.specs.Dates.{dayOf, dateOf, dayNumberOf, dayRefusalOf, yearOf, monthOf, dayOfMonthOf, dateRefusalOf};
+ghost use Rattle.calendar.specs.Dates.{dayOf, dateOf, dayNumberOf, dateRefusalOf, yearOf, monthOf, dayOfMonthOf, dayRefusalOf};
 ghost use Rattle.calendar.specs.Times.{instantOf, instantDayOf, instantMicrosOf, instantRefusalOf};
 
 #[no_mangle]
@@ -18,7 +18,7 @@ pub extern "C" fn enfys_date_to_day(year: u64, month: u64, day: u64) -> i64
 
 #[no_mangle]
 pub extern "C" fn enfys_date_refusal(year: u64, month: u64, day: u64) -> u32
-    ensures { λ r. ⌜ r ≡ dayRefusalOf (dayOf year month day) ⌝ }
+    ensures { λ r. ⌜ r ≡ dateRefusalOf (dayOf year month day) ⌝ }
 {
     match calendar::day_of(year, month, day) {
         DayAnswer::Day(_) => 0,
@@ -58,7 +58,7 @@ pub extern "C" fn enfys_day_to_day_of_month(day: i64) -> u64
 
 #[no_mangle]
 pub extern "C" fn enfys_day_refusal(day: i64) -> u32
-    ensures { λ r. ⌜ r ≡ dateRefusalOf (dateOf day) ⌝ }
+    ensures { λ r. ⌜ r ≡ dayRefusalOf (dateOf day) ⌝ }
 {
     match calendar::date_of(day) {
         DateAnswer::OnDate(_) => 0,

@@ -1,7 +1,7 @@
 // Service (d): frequency and phase of a tidal constituent.
 use tide::Doodson;
 ghost use mathlib.Core.Path.{_≡_};
-ghost use Rattle.tide.specs.Tidal.{tideOf, frequencyOf, phaseOf, refusalOf, doodson};
+ghost use Rattle.tide.specs.Tidal.{tideOf, frequencyOf, phaseOf, tideRefusalOf, doodson};
 
 #[no_mangle]
 pub extern "C" fn enfys_tide_frequency(
@@ -62,7 +62,7 @@ pub extern "C" fn enfys_tide_refusal(
     k5: i64,
     k6: i64,
 ) -> u32
-    ensures { λ r. ⌜ r ≡ refusalOf (tideOf day micros (doodson k1 k2 k3 k4 k5 k6)) ⌝ }
+    ensures { λ r. ⌜ r ≡ tideRefusalOf (tideOf day micros (doodson k1 k2 k3 k4 k5 k6)) ⌝ }
 {
     let k = Doodson {
         k1,

@@ -9,7 +9,7 @@ use native.Mathlib.Omega.{arith}
 use lib.Dec.{lit≤}
 use lib.IntN.{ℤ, pos, negℤ, _+ℤ_, _-ℤ_, _*ℤ_, natAbs}
 use lib.Signed.{shrZ}
-use Rattle.calendar.specs.Limits.{dayMicros}
+use Rattle.instants.specs.Limits.{dayMicros, daysCovered, indexOffset}
 use Rattle.algebra.specs.Integers.{dist}
 use Rattle.algebra.specs.Near.{Near}
 use Rattle.algebra.proofs.Ring.{end, _▸_, ring, quote}
@@ -19,25 +19,24 @@ use Rattle.algebra.proofs.Floor.{near-rounded}
 use Rattle.algebra.proofs.Turns.{Turns, turns-of, turns-right, turns-removed, remainder-less}
 use Rattle.sine.specs.Exact.{sineDen, exactSine, exactCosine}
 use Rattle.sine.specs.Ours.{ourSine, ourCosine}
-use Rattle.sine.proofs.Series.{sineDen-some}
+use Rattle.sine.proofs.Series.{sineDen-positive}
 use Rattle.sine.proofs.Sizes.{sine-below, cosine-below}
 use Rattle.sine.proofs.Distance.{sineDistance, SineNear, sine-near, cosine-near}
-use Rattle.arguments.specs.Exact.{sinceJ2000, century}
-use Rattle.arguments.specs.Ours.{moment, high}
-use Rattle.arguments.specs.Inner.{daysCovered, latest}
+use Rattle.instants.specs.Moments.{sinceJ2000, century, moment, latest, since}
+use Rattle.arguments.specs.Ours.{high}
 use Rattle.arguments.proofs.Floor.{high-near}
-use Rattle.arguments.proofs.Bounds.{moment-le}
+use Rattle.instants.proofs.Moments.{moment-le}
 use Rattle.nutation.specs.declared.Row.{Row}
 use Rattle.nutation.specs.declared.Place.{Place}
 use Rattle.nutation.specs.Table.{largest, AcceptedRow, AcceptedTable}
 use Rattle.nutation.specs.Exact.{place, parts, value, XC, XS, YC, YS, angleParts, exactAngle, exactOffset}
 use Rattle.nutation.specs.Ours.{momentOf, startAngle, angleRate, ourAngle, amplitude, ourXC, ourXS, ourYC, ourYS, offset, ourOffset, offsetsAt, ourOffsets}
 use Rattle.nutation.specs.Claims.{distance, Within, OffsetsNear}
-use Rattle.nutation.specs.Inner.{since, Placed}
+use Rattle.nutation.specs.Inner.{Placed}
 use Rattle.nutation.proofs.Time.{instant-is, moment-back}
 use Rattle.nutation.proofs.Places.{placed}
 use Rattle.nutation.proofs.Sizes.{gone-le, angle-less}
-use Rattle.nutation.proofs.Interpolation.{parts-some, amplitude-near, value-small}
+use Rattle.nutation.proofs.Interpolation.{parts-positive, amplitude-near, value-small}
 
 -- ---- the angle: within 2 units of 2^-41 turn, but for whole turns
 
@@ -166,7 +165,7 @@ unfolding offsetsAt D
 near-at rows a x h =
     let p = placed rows a x in
     record {
-      den-some = N.mul-pos (parts-some (place rows (since x)) x p) (sineDen-some angleParts (lit≤ tt));
+      den-positive = N.mul-pos (parts-positive (place rows (since x)) x p) (sineDen-positive angleParts (lit≤ tt));
       x-near = x-near (place rows (since x)) x p h;
       y-near = y-near (place rows (since x)) x p h;
       uncertainty-is = refl;
@@ -174,7 +173,7 @@ near-at rows a x h =
 
 -- PROMISE. With any accepted table, on each day from 1600-01-01 to 2400-12-31 and at each microsecond of it, both offsets are within 2 nanoarcseconds of
 -- the exact ones, and the uncertainty is the exact one. The day has the index i and the day number d.
-pub offsets-near : (rows : List Row) → AcceptedTable rows → (d : ℤ) (i m : ℕ) → d ≡ pos i -ℤ pos 94553 → i < daysCovered → m < dayMicros
+pub offsets-near : (rows : List Row) → AcceptedTable rows → (d : ℤ) (i m : ℕ) → d ≡ pos i -ℤ pos indexOffset → i < daysCovered → m < dayMicros
     → OffsetsNear rows (sinceJ2000 d m) (ourOffsets rows (sinceJ2000 d m))
 offsets-near rows a d i m e hi hm =
     subst (λ (n : ℤ). OffsetsNear rows n (ourOffsets rows n)) (sym (instant-is d i m e)) (near-at rows a (moment i m) (moment-le i m hi hm))

@@ -18,7 +18,8 @@ use Rattle.nutation.specs.declared.Place.the-variants.{End, Between}
 use Rattle.nutation.specs.Table.{largest, AcceptedRow}
 use Rattle.nutation.specs.Exact.{rowDate, span, parts, value}
 use Rattle.nutation.specs.Ours.{factor, mixed, amplitude}
-use Rattle.nutation.specs.Inner.{since, Placed}
+use Rattle.instants.specs.Moments.{since}
+use Rattle.nutation.specs.Inner.{Placed}
 use Rattle.nutation.proofs.Time.{after-is, after-natural}
 use Rattle.nutation.proofs.Sizes.{inside-span, after-less, between-small, minus-small}
 
@@ -57,10 +58,10 @@ mixed-near W off c d w hc hd = near-unscale (2 ^ 17) (near-as (near-trans cut mo
 
 -- ---- at a place of an accepted table
 
-pub parts-some : (p : Place) (x : ℕ) → Placed p x → 0 < parts p
+pub parts-positive : (p : Place) (x : ℕ) → Placed p x → 0 < parts p
 unfolding parts
-parts-some (End r) x h = lit≤ tt
-parts-some (Between a b) x h = N.lt-of-le-of-lt zero-le (N.lt-of-lt-of-le (after-less a b x (h .2)) (le-of-eq (sym (inside-span a b x (h .2)))))
+parts-positive (End r) x h = lit≤ tt
+parts-positive (Between a b) x h = N.lt-of-le-of-lt zero-le (N.lt-of-lt-of-le (after-less a b x (h .2)) (le-of-eq (sym (inside-span a b x (h .2)))))
 
 module _ (f : Row → ℤ) (k : (r : Row) → AcceptedRow r → natAbs (f r) ≤ largest) where
   pub amplitude-near : (p : Place) (x : ℕ) → Placed p x → Near (amplitude f p (since x) *ℤ pos (parts p)) (value f p (since x) *ℤ pos (2 ^ 10)) (3 * parts p)
@@ -70,7 +71,7 @@ module _ (f : Row → ℤ) (k : (r : Row) → AcceptedRow r → natAbs (f r) ≤
       alg : (z : ℤ) → z *ℤ pos 1 ≡ z
       alg z = ring (z ▸ end) (search quote depth 13) tt
   amplitude-near (Between a b) x h =
-      near-as (mixed-near (span a b) (natAbs (since x -ℤ rowDate a)) (f a) (f b) (parts-some (Between a b) x h) (k a (h .0)) (k b (h .1))) refl
+      near-as (mixed-near (span a b) (natAbs (since x -ℤ rowDate a)) (f a) (f b) (parts-positive (Between a b) x h) (k a (h .0)) (k b (h .1))) refl
       (ap (λ (z : ℤ). (f a *ℤ pos (span a b) +ℤ (f b -ℤ f a) *ℤ z) *ℤ pos (2 ^ 10)) (after-natural x a (h .2 .low))) (N.le-refl (3 * span a b))
 
   pub value-small : (p : Place) (x : ℕ) → Placed p x → natAbs (value f p (since x)) ≤ largest * parts p

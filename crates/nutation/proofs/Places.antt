@@ -17,7 +17,8 @@ use Rattle.nutation.specs.declared.Place.{Place}
 use Rattle.nutation.specs.declared.Place.the-variants.{End, Between}
 use Rattle.nutation.specs.Table.{rowAt, AcceptedTable}
 use Rattle.nutation.specs.Exact.{rowDate, started, place}
-use Rattle.nutation.specs.Inner.{since, dateMoment, Bracket, Inside, Placed}
+use Rattle.instants.specs.Moments.{since}
+use Rattle.nutation.specs.Inner.{dateMoment, Bracket, Inside, Placed}
 use Rattle.nutation.proofs.Time.{before-date, after-date}
 
 -- ---- how many rows are dated at or before x
@@ -66,10 +67,10 @@ unfolding started
 started-le x [] = N.le-refl 0
 started-le x (r ∷ rs) = cond-case (leZ (rowDate r) (since x)) (λ (n : ℕ). n ≤ suc (length rs)) (λ t. suc-le-suc (started-le x rs)) (λ t. zero-le)
 
-started-some : (x : ℕ) (rows : List Row) → 0 < length rows → dateMoment (rowAt rows 0) ≤ x → 0 < started rows (since x)
+started-positive : (x : ℕ) (rows : List Row) → 0 < length rows → dateMoment (rowAt rows 0) ≤ x → 0 < started rows (since x)
 unfolding started
-started-some x [] h k = absurd (N.not-suc-le-zero h)
-started-some x (r ∷ rs) h k = cond-case (leZ (rowDate r) (since x)) (λ (n : ℕ). 0 < n) (λ t. N.zero-lt-suc (started rs (since x))) (λ t. absurd (clash (not-dated x r t) k))
+started-positive x [] h k = absurd (N.not-suc-le-zero h)
+started-positive x (r ∷ rs) h k = cond-case (leZ (rowDate r) (since x)) (λ (n : ℕ). 0 < n) (λ t. N.zero-lt-suc (started rs (since x))) (λ t. absurd (clash (not-dated x r t) k))
   where
     clash : {y : ℕ} → x < y → y ≤ x → ⊥
     clash h k = omega arith
@@ -108,7 +109,7 @@ place-case P rows x some ends inside =
 
     between : dateMoment (rowAt rows 0) < x → x < dateMoment (rowAt rows last) → P (Between (rowAt rows (s - 1)) (rowAt rows s))
     between h k =
-        let g = started-some x rows some (N.le-of-lt h) in
+        let g = started-positive x rows some (N.le-of-lt h) in
         let l = less s (length rows) (started-le x rows) (λ e. apart e g k) in
         let e = up s g in
         subst (λ (n : ℕ). P (Between (rowAt rows (s - 1)) (rowAt rows n))) e

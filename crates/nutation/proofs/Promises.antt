@@ -6,18 +6,18 @@ use Prim.Native.Nat.{ℕ, _+_, _*_, _≤_, _<_}
 use native.Mathlib.Omega.{arith}
 use lib.Dec.{T, ltb, ltb→lt}
 use lib.IntN.{ℤ, pos, _-ℤ_, _*ℤ_, natAbs}
-use Rattle.calendar.specs.Instants.{outside, indexAt, acceptance, IsAccepted}
-use Rattle.calendar.proofs.Index.{accepted-at, answered-too}
+use Rattle.instants.specs.Instants.{outside, dayIndex, acceptance, IsAccepted}
+use Rattle.instants.proofs.Accepted.{accepted-at, answered-too}
 use Rattle.algebra.specs.Integers.{+_}
 use Rattle.algebra.specs.Near.{Near}
 use Rattle.algebra.proofs.Ring.{end, _▸_, ring, quote}
 use Rattle.algebra.proofs.Near.{near-as, near-sym, near-trans, near-unscale}
 use Rattle.sine.specs.Exact.{wholeTurn}
-use Rattle.sine.specs.Ours.{nested, sineQuarter, quarterTurn, ourSine, ourCosine}
-use Rattle.arguments.specs.Exact.{sinceJ2000}
+use Rattle.sine.specs.Ours.{alternating, sineQuarter, quarterTurn, ourSine, ourCosine}
+use Rattle.instants.specs.Moments.{sinceJ2000}
 use Rattle.nutation.specs.declared.Row.{Row}
 use Rattle.nutation.specs.declared.Offsets.{Offsets}
-use Rattle.nutation.specs.declared.NutationAnswer.the-variants.{Given, Refused}
+use Rattle.nutation.specs.declared.NutationAnswer.the-variants.{Nutation, NoNutation}
 use Rattle.nutation.specs.Table.{AcceptedTable, builtIn}
 use Rattle.nutation.specs.Exact.{rowDate, started, place, span, exactX, exactY, exactDen}
 use Rattle.nutation.specs.Ours.{momentOf, ourAngle, factor, mixed, amplitude, offset, offsetsAt, ourOffsets, nutationWith, nutationOf}
@@ -28,16 +28,16 @@ use Rattle.nutation.proofs.Distance.{offsets-near}
 -- ---- accepted instants
 
 near-here : (rows : List Row) → AcceptedTable rows → (d : ℤ) (m : ℕ) → IsAccepted d m → OffsetsNear rows (sinceJ2000 d m) (ourOffsets rows (sinceJ2000 d m))
-near-here rows t d m a = let k = accepted-at d m (indexAt d) a in offsets-near rows t d (indexAt d) m (k .is) (omega (arith, k .high)) (k .less)
+near-here rows t d m a = let k = accepted-at d m (dayIndex d) a in offsets-near rows t d (dayIndex d) m (k .is) (omega (arith, k .high)) (k .less)
 
 -- PROMISE. With any accepted table the answer at every accepted instant is given, both offsets within 2 nanoarcseconds of the exact ones and the
 -- uncertainty exact.
 pub answer-near : (rows : List Row) → AcceptedTable rows → (d : ℤ) (m : ℕ) → IsAccepted d m
-    → (o : Offsets) × (nutationWith rows d m ≡ Given o) × OffsetsNear rows (sinceJ2000 d m) o
-answer-near rows t d m a = (ourOffsets rows (sinceJ2000 d m), sym (answered-too Refused _ d m a), near-here rows t d m a)
+    → (o : Offsets) × (nutationWith rows d m ≡ Nutation o) × OffsetsNear rows (sinceJ2000 d m) o
+answer-near rows t d m a = (ourOffsets rows (sinceJ2000 d m), sym (answered-too NoNutation _ d m a), near-here rows t d m a)
 
 -- PROMISE. So is the service's answer, of the built-in rows.
-pub nutation-near : (d : ℤ) (m : ℕ) → IsAccepted d m → (o : Offsets) × (nutationOf d m ≡ Given o) × OffsetsNear builtIn (sinceJ2000 d m) o
+pub nutation-near : (d : ℤ) (m : ℕ) → IsAccepted d m → (o : Offsets) × (nutationOf d m ≡ Nutation o) × OffsetsNear builtIn (sinceJ2000 d m) o
 unfolding nutationOf
 nutation-near d m a = answer-near builtIn builtIn-accepted d m a
 
@@ -61,11 +61,11 @@ far {c} {a} {b} p q t = clash (near-trans (near-sym p) q .by) (ltb→lt (4 * dis
 
 -- two days of the table, 1987-01-01 and 2009-01-01
 early-accepted : IsAccepted (+ 46796) 0
-unfolding acceptance outside indexAt
+unfolding acceptance outside dayIndex
 early-accepted = refl
 
 late-accepted : IsAccepted (+ 54832) 0
-unfolding acceptance outside indexAt
+unfolding acceptance outside dayIndex
 late-accepted = refl
 
 -- either offset, ours and the exact one
@@ -75,13 +75,13 @@ no-constant : (ours exact : ℤ → ℤ) → ((d : ℤ) (m : ℕ) → IsAccepted
 no-constant ours exact near t c h = far (at (+ 46796) 0 early-accepted) (at (+ 54832) 0 late-accepted) t
   where
     at : (d : ℤ) (m : ℕ) → IsAccepted d m → Near c (ours (sinceJ2000 d m)) (2 * distance)
-    at d m a = close (near-here builtIn builtIn-accepted d m a .den-some) (h d m a) (near d m a)
+    at d m a = close (near-here builtIn builtIn-accepted d m a .den-positive) (h d m a) (near d m a)
 
 abbrev atBoth : (Offsets → ℤ) → ℤ
 atBoth f = f (ourOffsets builtIn (sinceJ2000 (+ 46796) 0)) -ℤ f (ourOffsets builtIn (sinceJ2000 (+ 54832) 0))
 
 both-apart : T (ltb (4 * distance) (natAbs (atBoth (λ o. o .x)))) × T (ltb (4 * distance) (natAbs (atBoth (λ o. o .y))))
-unfolding offsetsAt builtIn place started rowDate span factor mixed amplitude offset momentOf ourAngle ourSine ourCosine wholeTurn quarterTurn sineQuarter nested
+unfolding offsetsAt builtIn place started rowDate span factor mixed amplitude offset momentOf ourAngle ourSine ourCosine wholeTurn quarterTurn sineQuarter alternating
 both-apart = (tt, tt)
 
 -- PROMISE. No one number, zero among them, is within 2 nanoarcseconds of X at every accepted instant.

@@ -6,13 +6,14 @@ use native.Mathlib.Nat as N
 use native.Mathlib.Omega.{arith}
 use lib.Dec.{lit≤}
 use lib.IntN.{ℤ, pos, _+ℤ_, _-ℤ_, _*ℤ_, natAbs}
-use Rattle.calendar.specs.Limits.{dayMicros}
+use Rattle.instants.specs.Limits.{dayMicros}
 use Rattle.algebra.specs.Integers.{dist}
 use Rattle.algebra.proofs.Ring.{end, _▸_, _▹_, ring, quote, ringN, quoteN}
 use Rattle.nutation.specs.declared.Row.{Row}
 use Rattle.nutation.specs.declared.Place.the-variants.{End, Between}
 use Rattle.nutation.specs.Exact.{span, value, uValue, uParts, roundUp, uncertaintyAt}
-use Rattle.nutation.specs.Inner.{since, dateMoment, Inside, twiceBetween}
+use Rattle.instants.specs.Moments.{since}
+use Rattle.nutation.specs.Inner.{dateMoment, Inside, twiceBetween}
 use Rattle.nutation.proofs.Time.{apart-is, after-is, after-natural}
 use Rattle.nutation.proofs.Sizes.{inside-span, after-less}
 

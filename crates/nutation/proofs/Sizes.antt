@@ -10,20 +10,20 @@ use lib.IntN.{ℤ, pos, negsuc, negℤ, _+ℤ_, _-ℤ_, _*ℤ_, natAbs}
 use lib.Signed.{shrZ}
 use mir.Syntax.{w64}
 use mir.Val.{SFits}
-use Rattle.calendar.specs.Limits.{dayMicros}
+use Rattle.instants.specs.Limits.{dayMicros}
 use Rattle.algebra.proofs.Ring.{end, _▸_, ring, quote}
 use Rattle.algebra.proofs.Order.{abs-neg}
 use Rattle.algebra.proofs.Near.{abs-sum, abs-prod}
 use Rattle.algebra.proofs.Fits.{small-fits, zero-less}
 use Rattle.arguments.specs.Ours.{high}
-use Rattle.arguments.specs.Inner.{latest}
+use Rattle.instants.specs.Moments.{latest, since}
 use Rattle.nutation.specs.declared.Row.{Row}
 use Rattle.nutation.specs.declared.Place.{Place}
 use Rattle.nutation.specs.declared.Place.the-variants.{End, Between}
 use Rattle.nutation.specs.Table.{largest, AcceptedRow}
 use Rattle.nutation.specs.Exact.{span}
 use Rattle.nutation.specs.Ours.{startAngle, angleRate, ourAngle, factor, mixed, amplitude, offset}
-use Rattle.nutation.specs.Inner.{since, dateMoment, Inside, Placed, MixBounds, widest, OffsetBounds}
+use Rattle.nutation.specs.Inner.{dateMoment, Inside, Placed, MixBounds, widest, OffsetBounds}
 use Rattle.nutation.proofs.Time.{after-is, span-is, days-apart}
 
 -- ---- between two rows

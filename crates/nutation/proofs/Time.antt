@@ -8,30 +8,29 @@ use native.Mathlib.Omega.{arith}
 use lib.Dec.{T, leb, ltb, leb→le, le→leb, ltb→lt, nltb→le}
 use lib.IntN.{ℤ, pos, _+ℤ_, _-ℤ_, _*ℤ_, natAbs}
 use lib.Signed.{leZ, leZ-yes}
-use Rattle.calendar.specs.Limits.{dayMicros}
+use Rattle.instants.specs.Limits.{dayMicros, indexOffset}
 use Rattle.algebra.specs.Integers.{+_, dist}
 use Rattle.algebra.proofs.Tests.{cond-case}
 use Rattle.algebra.proofs.Ring.{end, _▸_, _▹_, ring, quote}
 use Rattle.algebra.proofs.Order.{_≼_, linear, to-ℕ, of-ℕ, pos-sub}
-use Rattle.arguments.specs.Exact.{sinceJ2000, century}
-use Rattle.arguments.specs.Ours.{moment}
-use Rattle.arguments.proofs.Distance.{moment-is}
+use Rattle.instants.specs.Moments.{sinceJ2000, century, moment, since}
+use Rattle.instants.proofs.Moments.{moment-is}
 use Rattle.nutation.specs.declared.Row.{Row}
 use Rattle.nutation.specs.Exact.{rowDate, span}
 use Rattle.nutation.specs.Ours.{momentOf}
-use Rattle.nutation.specs.Inner.{since, dateMoment}
+use Rattle.nutation.specs.Inner.{dateMoment}
 
 date-is : (r : Row) → rowDate r ≡ since (dateMoment r)
 unfolding rowDate since
 date-is r = go (r .day)
   where
-    go : (d : ℕ) → sinceJ2000 (pos d) 0 ≡ pos (moment (d + 94553) 0) -ℤ pos 5 *ℤ pos century
+    go : (d : ℕ) → sinceJ2000 (pos d) 0 ≡ pos (moment (d + indexOffset) 0) -ℤ pos 5 *ℤ pos century
     go d = ring (d ▹ end) (search quote depth 13) tt
 
 -- the instant of the index i and the microseconds m
-pub instant-is : (d : ℤ) (i m : ℕ) → d ≡ pos i -ℤ pos 94553 → sinceJ2000 d m ≡ since (moment i m)
+pub instant-is : (d : ℤ) (i m : ℕ) → d ≡ pos i -ℤ pos indexOffset → sinceJ2000 d m ≡ since (moment i m)
 unfolding since
-instant-is d i m e = ap (λ (z : ℤ). sinceJ2000 z m) e ∙ moment-is i m
+instant-is d i m e = moment-is d i m e
 
 pub moment-back : (x : ℕ) → momentOf (since x) ≡ x
 unfolding momentOf since
@@ -107,5 +106,5 @@ span-is a b h = ap (λ (z : ℤ). natAbs (z -ℤ rowDate a)) (date-is b) ∙ aft
 pub days-apart : (a b : Row) → dateMoment b - dateMoment a ≡ (b .day - a .day) * dayMicros
 days-apart a b = go (a .day) (b .day)
   where
-    go : (a b : ℕ) → moment (b + 94553) 0 - moment (a + 94553) 0 ≡ (b - a) * dayMicros
+    go : (a b : ℕ) → moment (b + indexOffset) 0 - moment (a + indexOffset) 0 ≡ (b - a) * dayMicros
     go a b = omega arith

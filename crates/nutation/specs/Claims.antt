@@ -19,7 +19,7 @@ Within z num den = Near (z *ℤ pos den) num (distance * den)
 
 -- both offsets are near the exact ones at n, over a denominator that is not 0, and the uncertainty is the exact one
 pub record OffsetsNear (rows : List Row) (n : ℤ) (o : Offsets) : Type 0 where
-  pub den-some : 0 < exactDen rows n
+  pub den-positive : 0 < exactDen rows n
   pub x-near : Within (o .x) (exactX rows n) (exactDen rows n)
   pub y-near : Within (o .y) (exactY rows n) (exactDen rows n)
   pub uncertainty-is : o .uncertainty ≡ exactUncertainty rows n

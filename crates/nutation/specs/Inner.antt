@@ -3,27 +3,23 @@
 use mathlib.Core.Path.{_≡_}
 use mathlib.Core.List.{List, [], _∷_}
 use Prim.Native.Nat.{ℕ, _+_, _*_, _-_, _^_, _≤_, _<_}
-use lib.IntN.{ℤ, pos, _-ℤ_, _*ℤ_, natAbs}
+use lib.IntN.{ℤ, pos, natAbs}
 use lib.ListN.{length, getD}
-use Rattle.arguments.specs.Exact.{century}
-use Rattle.arguments.specs.Ours.{moment}
+use Rattle.instants.specs.Moments.{moment}
 use Rattle.nutation.specs.declared.Row.{Row}
 use Rattle.nutation.specs.declared.Place.{Place}
 use Rattle.nutation.specs.declared.Place.the-variants.{End, Between}
 use Rattle.nutation.specs.declared.Amplitudes.{Amplitudes}
 use Rattle.nutation.specs.Table.{row, rowAt, largest, AcceptedRow, AcceptedTable}
 use Rattle.nutation.specs.Exact.{roundUp}
+use Rattle.instants.specs.Limits.{indexOffset}
 use Rattle.nutation.specs.Ours.{ourXC, ourXS}
 
 -- ---- time: the code counts x, the microseconds since five centuries before J2000.0
 
--- n = x - 5 N
-unfoldable pub since : ℕ → ℤ
-since x = pos x -ℤ pos 5 *ℤ pos century
-
 -- a row's date as x
 abbrev pub dateMoment : Row → ℕ
-dateMoment r = moment (r .day + 94553) 0
+dateMoment r = moment (r .day + indexOffset) 0
 
 -- ---- a table that is lent: rows of four numbers
 

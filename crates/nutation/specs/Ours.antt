@@ -5,18 +5,18 @@ use mathlib.Core.List.{List}
 use Prim.Native.Nat.{ℕ, _*_, _-_, _/_, _%_, _^_}
 use lib.IntN.{ℤ, pos, negℤ, _+ℤ_, _-ℤ_, _*ℤ_, natAbs}
 use lib.Signed.{shrZ}
-use Rattle.calendar.specs.Refusals.{refusedOr}
-use Rattle.calendar.specs.Instants.{instantCases}
+use Rattle.instants.specs.Refusals.{refusedOr}
+use Rattle.instants.specs.Instants.{instantCases}
 use Rattle.algebra.specs.Integers.{+_}
 use Rattle.sine.specs.Ours.{ourSine, ourCosine}
-use Rattle.arguments.specs.Exact.{sinceJ2000, century}
+use Rattle.instants.specs.Moments.{sinceJ2000, century}
 use Rattle.arguments.specs.Ours.{high}
 use Rattle.nutation.specs.declared.Row.{Row}
 use Rattle.nutation.specs.declared.Place.{Place}
 use Rattle.nutation.specs.declared.Place.the-variants.{End, Between}
 use Rattle.nutation.specs.declared.Offsets.{Offsets}
 use Rattle.nutation.specs.declared.NutationAnswer.{NutationAnswer}
-use Rattle.nutation.specs.declared.NutationAnswer.the-variants.{Given, Refused}
+use Rattle.nutation.specs.declared.NutationAnswer.the-variants.{Nutation, NoNutation}
 use Rattle.nutation.specs.Table.{builtIn}
 use Rattle.nutation.specs.Exact.{rowDate, span, place, uncertaintyAt}
 
@@ -80,24 +80,24 @@ ourOffsets rows n = offsetsAt (place rows n) n
 -- ---- the answer at an instant
 
 abbrev pub nutationWith : List Row → ℤ → ℕ → NutationAnswer
-nutationWith rows d m = refusedOr Refused (instantCases d m) (Given (ourOffsets rows (sinceJ2000 d m)))
+nutationWith rows d m = refusedOr NoNutation (instantCases d m) (Nutation (ourOffsets rows (sinceJ2000 d m)))
 
 unfoldable pub nutationOf : ℤ → ℕ → NutationAnswer
 nutationOf d m = nutationWith builtIn d m
 
 -- the numbers that the exported calls give for an answer: zeros beside a refusal, and 0 for success
 abbrev pub xOf : NutationAnswer → ℤ
-xOf (Given o) = o .x
-xOf (Refused r) = + 0
+xOf (Nutation o) = o .x
+xOf (NoNutation r) = + 0
 
 abbrev pub yOf : NutationAnswer → ℤ
-yOf (Given o) = o .y
-yOf (Refused r) = + 0
+yOf (Nutation o) = o .y
+yOf (NoNutation r) = + 0
 
 abbrev pub uncertaintyOf : NutationAnswer → ℕ
-uncertaintyOf (Given o) = o .uncertainty
-uncertaintyOf (Refused r) = 0
+uncertaintyOf (Nutation o) = o .uncertainty
+uncertaintyOf (NoNutation r) = 0
 
-abbrev pub refusalOf : NutationAnswer → ℕ
-refusalOf (Given o) = 0
-refusalOf (Refused r) = r
+abbrev pub nutationRefusalOf : NutationAnswer → ℕ
+nutationRefusalOf (Nutation o) = 0
+nutationRefusalOf (NoNutation r) = r

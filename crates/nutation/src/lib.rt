@@ -1,17 +1,17 @@
 // The offsets of the celestial pole by the free core nutation, and their uncertainty, after FCNNUT.
 // The offsets are ours in whole numbers (specs/Ours.antt), within two nanoarcseconds of the exact ones (proofs/Distance.antt); the uncertainty is exact.
-use calendar::Acceptance;
+use instants::Acceptance;
 ghost use mathlib.Core.Path.{_≡_};
 ghost use Prim.Native.Nat.{_+_, _-_, _*_, _/_, _^_, _≤_, _<_};
 ghost use lib.IntN.{ℤ};
 ghost use lib.ListN.{length};
-ghost use Rattle.calendar.specs.Limits.{dayMicros};
+ghost use Rattle.instants.specs.Limits.{dayMicros};
 ghost use Rattle.algebra.specs.Integers.{dist};
-ghost use Rattle.arguments.specs.Inner.{latest};
+ghost use Rattle.instants.specs.Moments.{latest, since};
 ghost use Rattle.nutation.specs.Table.{rowAt, lastRowDay, largest, AcceptedRow};
 ghost use Rattle.nutation.specs.Exact.{place, roundUp, uncertaintyAt};
 ghost use Rattle.nutation.specs.Ours.{ourAngle, mixed, offset, offsetsAt, nutationOf};
-ghost use Rattle.nutation.specs.Inner.{since, dateMoment, rowsOf, Lent, Bracket, Inside, Placed, amplitudes, MixBounds, OffsetBounds, twiceBetween};
+ghost use Rattle.nutation.specs.Inner.{dateMoment, rowsOf, Lent, Bracket, Inside, Placed, amplitudes, MixBounds, OffsetBounds, twiceBetween};
 
 // A row of a table: the day number of its date, the amplitudes and the uncertainty in hundredths of a microarcsecond.
 struct Row {
@@ -42,8 +42,8 @@ pub struct Offsets {
 
 // The offsets, or refusal 8 or 9.
 pub enum NutationAnswer {
-    Given(Offsets),
-    Refused(u32),
+    Nutation(Offsets),
+    NoNutation(u32),
 }
 
 // The built-in rows: date, XC, XS, uncertainty.
@@ -85,7 +85,7 @@ fn date_of(r: Row) -> u64
     requires { ⌜ AcceptedRow r ⌝ }
     ensures { λ q. ⌜ q ≡ dateMoment r ⌝ }
 {
-    arguments::moment(r.day + 94553, 0)
+    instants::moment(r.day + 94553, 0)
 }
 
 fn row_at(t: &[[i64; 4]], i: usize) -> Row
@@ -276,11 +276,11 @@ fn offsets_at(t: &[[i64; 4]], x: u64) -> Offsets
 pub fn nutation_of(day: i64, micros: u64) -> NutationAnswer
     ensures { λ r. ⌜ r ≡ nutationOf day micros ⌝ }
 {
-    match calendar::accept(day, micros) {
-        Acceptance::NotAccepted(n) => NutationAnswer::Refused(n),
+    match instants::accept(day, micros) {
+        Acceptance::NotAccepted(n) => NutationAnswer::NoNutation(n),
         Acceptance::Accepted(i) => {
             let t = ROWS;
-            NutationAnswer::Given(offsets_at(&t, arguments::moment(i, micros)))
+            NutationAnswer::Nutation(offsets_at(&t, instants::moment(i, micros)))
         }
     }
 }

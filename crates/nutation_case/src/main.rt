@@ -23,7 +23,7 @@ fn show(z: i64) {
 }
 
 fn main() {
-    let NutationAnswer::Given(o) = nutation::nutation_of(54790, 0) else {
+    let NutationAnswer::Nutation(o) = nutation::nutation_of(54790, 0) else {
         return;
     };
     show(o.x);

@@ -3,10 +3,10 @@ use mathlib.Core.Path.{_≡_, refl}
 use Prim.Native.Nat.{ℕ}
 use mathlib.Core.List.{List, _++_}
 use lib.IntN.{ℤ, pos}
-use Rattle.calendar.specs.Refusals.{firstRefusal}
-use Rattle.calendar.specs.Instants.{outside, instantCases}
-use Rattle.calendar.proofs.FirstRefusal.{handed-on}
-use Rattle.calendar.specs.Dates.{dateCases, dayOf, dayCases, dateOf, dayNumberOf, dayRefusalOf, yearOf, monthOf, dayOfMonthOf, dateRefusalOf}
+use Rattle.instants.specs.Refusals.{firstRefusal}
+use Rattle.instants.specs.Instants.{outside, instantCases}
+use Rattle.instants.proofs.FirstRefusal.{handed-on}
+use Rattle.calendar.specs.Dates.{dateCases, dayOf, dayCases, dateOf, dayNumberOf, dateRefusalOf, yearOf, monthOf, dayOfMonthOf, dayRefusalOf}
 use Rattle.calendar.specs.Times.{timeCases, instantOf, instantDayOf, instantMicrosOf, instantRefusalOf}
 use Rattle.calendar.specs.declared.DayAnswer.{DayAnswer}
 use Rattle.calendar.specs.declared.DayAnswer.the-variants.{Day, NoDay}
@@ -22,8 +22,8 @@ use Rattle.clock.specs.declared.JoinAnswer.the-variants.{Joined, NoJoin}
 use Rattle.tide.specs.Binary64.{zero64}
 use Rattle.tide.specs.Tidal as tide
 use Rattle.tide.specs.declared.Doodson.{Doodson}
-use Rattle.tide.specs.declared.Answer as tideAnswer
-use Rattle.tide.specs.declared.Answer.the-variants as tideCase
+use Rattle.tide.specs.declared.TideAnswer as tideAnswer
+use Rattle.tide.specs.declared.TideAnswer.the-variants as tideCase
 use Rattle.zonal.specs.Ours as zonal
 use Rattle.zonal.specs.declared.ZonalAnswer.{ZonalAnswer}
 use Rattle.zonal.specs.declared.ZonalAnswer.the-variants as zonalCase
@@ -40,13 +40,13 @@ use Rattle.promises.specs.AnyInput.{ZeroBeside, AnyInputIsAnswered}
 
 -- ---- the refusals: a definition is the first case of its own list that applies, and that list computes to the one written out
 
-date-to-day : (y m d : ℕ) → dayRefusalOf (dayOf y m d) ≡ firstRefusal (dateCases y m d)
+date-to-day : (y m d : ℕ) → dateRefusalOf (dayOf y m d) ≡ firstRefusal (dateCases y m d)
 unfolding dayOf
-date-to-day y m d = handed-on NoDay dayRefusalOf (λ n. refl) (dateCases y m d) _
+date-to-day y m d = handed-on NoDay dateRefusalOf (λ n. refl) (dateCases y m d) _
 
-day-to-date : (z : ℤ) → dateRefusalOf (dateOf z) ≡ firstRefusal (dayCases z)
+day-to-date : (z : ℤ) → dayRefusalOf (dateOf z) ≡ firstRefusal (dayCases z)
 unfolding dateOf
-day-to-date z = handed-on NoDate dateRefusalOf (λ n. refl) (dayCases z) _
+day-to-date z = handed-on NoDate dayRefusalOf (λ n. refl) (dayCases z) _
 
 date-and-time : (y m d h n s u : ℕ) → instantRefusalOf (instantOf y m d h n s u) ≡ firstRefusal (dateCases y m d ++ timeCases h n s u)
 unfolding instantOf
@@ -60,17 +60,17 @@ join : (d : ℤ) (t : ℕ) → joinRefusalOf (joinOf d t) ≡ firstRefusal (join
 unfolding joinOf
 join d t = handed-on NoJoin joinRefusalOf (λ n. refl) (joinCases d t) _
 
-phase : (d : ℤ) (m : ℕ) (k : Doodson) → tide.refusalOf (tide.tideOf d m k) ≡ firstRefusal (tide.tideCases d m k)
+phase : (d : ℤ) (m : ℕ) (k : Doodson) → tide.tideRefusalOf (tide.tideOf d m k) ≡ firstRefusal (tide.tideCases d m k)
 unfolding tide.tideOf
-phase d m k = handed-on tideCase.Refused tide.refusalOf (λ n. refl) (tide.tideCases d m k) _
+phase d m k = handed-on tideCase.NoTide tide.tideRefusalOf (λ n. refl) (tide.tideCases d m k) _
 
-corrections : (d : ℤ) (m : ℕ) → zonal.refusalOf (zonal.zonalOf d m) ≡ firstRefusal (instantCases d m)
+corrections : (d : ℤ) (m : ℕ) → zonal.zonalRefusalOf (zonal.zonalOf d m) ≡ firstRefusal (instantCases d m)
 unfolding zonal.zonalOf
-corrections d m = handed-on zonalCase.Refused zonal.refusalOf (λ n. refl) (instantCases d m) _
+corrections d m = handed-on zonalCase.NoZonal zonal.zonalRefusalOf (λ n. refl) (instantCases d m) _
 
-offsets : (d : ℤ) (m : ℕ) → nutation.refusalOf (nutation.nutationOf d m) ≡ firstRefusal (instantCases d m)
+offsets : (d : ℤ) (m : ℕ) → nutation.nutationRefusalOf (nutation.nutationOf d m) ≡ firstRefusal (instantCases d m)
 unfolding nutation.nutationOf
-offsets d m = handed-on nutationCase.Refused nutation.refusalOf (λ n. refl) (instantCases d m) _
+offsets d m = handed-on nutationCase.NoNutation nutation.nutationRefusalOf (λ n. refl) (instantCases d m) _
 
 write : (d : ℤ) (m n : ℕ) → writeRefusal d m n ≡ firstRefusal (writeCases d m n)
 unfolding writeRefusal
@@ -90,11 +90,11 @@ run d m count step n = refl
 given : {A : Type 0} → (_≡_ {A = ℕ} 0 0 → ⊥) → A
 given f = absurd (f refl)
 
-day-zero : (a : DayAnswer) → ZeroBeside dayRefusalOf dayNumberOf (pos 0) a
+day-zero : (a : DayAnswer) → ZeroBeside dateRefusalOf dayNumberOf (pos 0) a
 day-zero (Day d) = given
 day-zero (NoDay n) = λ _. refl
 
-date-zero : (a : DateAnswer) → ZeroBeside dateRefusalOf yearOf 0 a × ZeroBeside dateRefusalOf monthOf 0 a × ZeroBeside dateRefusalOf dayOfMonthOf 0 a
+date-zero : (a : DateAnswer) → ZeroBeside dayRefusalOf yearOf 0 a × ZeroBeside dayRefusalOf monthOf 0 a × ZeroBeside dayRefusalOf dayOfMonthOf 0 a
 date-zero (OnDate t) = (given, given, given)
 date-zero (NoDate n) = (λ _. refl, λ _. refl, λ _. refl)
 
@@ -110,19 +110,19 @@ join-zero : (a : JoinAnswer) → ZeroBeside joinRefusalOf joinedDayOf (pos 0) a 
 join-zero (Joined t) = (given, given)
 join-zero (NoJoin n) = (λ _. refl, λ _. refl)
 
-tide-zero : (a : tideAnswer.Answer) → ZeroBeside tide.refusalOf tide.frequencyOf zero64 a × ZeroBeside tide.refusalOf tide.phaseOf zero64 a
-tide-zero (tideCase.Given x) = (given, given)
-tide-zero (tideCase.Refused n) = (λ _. refl, λ _. refl)
+tide-zero : (a : tideAnswer.TideAnswer) → ZeroBeside tide.tideRefusalOf tide.frequencyOf zero64 a × ZeroBeside tide.tideRefusalOf tide.phaseOf zero64 a
+tide-zero (tideCase.Tide x) = (given, given)
+tide-zero (tideCase.NoTide n) = (λ _. refl, λ _. refl)
 
 zonal-zero : (a : ZonalAnswer)
-    → ZeroBeside zonal.refusalOf zonal.ut1Of (pos 0) a × ZeroBeside zonal.refusalOf zonal.lodOf (pos 0) a × ZeroBeside zonal.refusalOf zonal.rateOf (pos 0) a
-zonal-zero (zonalCase.Given c) = (given, given, given)
-zonal-zero (zonalCase.Refused n) = (λ _. refl, λ _. refl, λ _. refl)
+    → ZeroBeside zonal.zonalRefusalOf zonal.ut1Of (pos 0) a × ZeroBeside zonal.zonalRefusalOf zonal.lodOf (pos 0) a × ZeroBeside zonal.zonalRefusalOf zonal.rateOf (pos 0) a
+zonal-zero (zonalCase.Zonal c) = (given, given, given)
+zonal-zero (zonalCase.NoZonal n) = (λ _. refl, λ _. refl, λ _. refl)
 
 nutation-zero : (a : NutationAnswer)
-    → ZeroBeside nutation.refusalOf nutation.xOf (pos 0) a × ZeroBeside nutation.refusalOf nutation.yOf (pos 0) a × ZeroBeside nutation.refusalOf nutation.uncertaintyOf 0 a
-nutation-zero (nutationCase.Given o) = (given, given, given)
-nutation-zero (nutationCase.Refused n) = (λ _. refl, λ _. refl, λ _. refl)
+    → ZeroBeside nutation.nutationRefusalOf nutation.xOf (pos 0) a × ZeroBeside nutation.nutationRefusalOf nutation.yOf (pos 0) a × ZeroBeside nutation.nutationRefusalOf nutation.uncertaintyOf 0 a
+nutation-zero (nutationCase.Nutation o) = (given, given, given)
+nutation-zero (nutationCase.NoNutation n) = (λ _. refl, λ _. refl, λ _. refl)
 
 read-zero : (a : ReadAnswer)
     → ZeroBeside readRefusalOf recordDayOf (pos 0) a

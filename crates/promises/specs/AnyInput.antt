@@ -10,8 +10,8 @@ use lib.Dec.{ltb, leb, eqb}
 use lib.IntN.{ℤ, pos}
 use lib.ListN.{length}
 use lib.Signed.{ltZ}
-use Rattle.calendar.specs.Refusals.{Case, case, firstRefusal}
-use Rattle.calendar.specs.Dates.{monthLength, dayOf, dateOf, dayNumberOf, dayRefusalOf, yearOf, monthOf, dayOfMonthOf, dateRefusalOf}
+use Rattle.instants.specs.Refusals.{Case, case, firstRefusal}
+use Rattle.calendar.specs.Dates.{monthLength, dayOf, dateOf, dayNumberOf, dateRefusalOf, yearOf, monthOf, dayOfMonthOf, dayRefusalOf}
 use Rattle.calendar.specs.Times.{instantOf, instantDayOf, instantMicrosOf, instantRefusalOf}
 use Rattle.calendar.specs.declared.DayAnswer.{DayAnswer}
 use Rattle.calendar.specs.declared.DateAnswer.{DateAnswer}
@@ -22,7 +22,7 @@ use Rattle.clock.specs.declared.JoinAnswer.{JoinAnswer}
 use Rattle.tide.specs.Binary64.{zero64}
 use Rattle.tide.specs.Tidal as tide
 use Rattle.tide.specs.declared.Doodson.{Doodson}
-use Rattle.tide.specs.declared.Answer as tideAnswer
+use Rattle.tide.specs.declared.TideAnswer as tideAnswer
 use Rattle.zonal.specs.Ours as zonal
 use Rattle.zonal.specs.declared.ZonalAnswer.{ZonalAnswer}
 use Rattle.nutation.specs.Ours as nutation
@@ -30,7 +30,8 @@ use Rattle.nutation.specs.declared.NutationAnswer.{NutationAnswer}
 use Rattle.bigendian.specs.Numbers.{numberAt, wordSum}
 use Rattle.record.specs.Records.{writeRefusal, written, readOf, recordDayOf, recordMicrosOf, recordUt1Of, recordLodOf, recordRateOf, readRefusalOf}
 use Rattle.record.specs.declared.ReadAnswer.{ReadAnswer}
-use Rattle.run.specs.Run.{laterDay, runRefusal, runWritten}
+use Rattle.instants.specs.Instants.{laterDay}
+use Rattle.run.specs.Run.{runRefusal, runWritten}
 
 -- ---- when each number is given
 
@@ -107,10 +108,10 @@ ZeroBeside refusal value zero a = (refusal a ≡ 0 → ⊥) → value a ≡ zero
 
 pub record AnyInputIsAnswered : Type 0 where
   -- (a)
-  pub date-to-day : (y m d : ℕ) → dayRefusalOf (dayOf y m d) ≡ firstRefusal (refusal1 y ∷ refusal2 m ∷ refusal3 y m d ∷ [])
-  pub date-to-day-zero : (a : DayAnswer) → ZeroBeside dayRefusalOf dayNumberOf (pos 0) a
-  pub day-to-date : (z : ℤ) → dateRefusalOf (dateOf z) ≡ firstRefusal (refusal8 z ∷ [])
-  pub day-to-date-zero : (a : DateAnswer) → ZeroBeside dateRefusalOf yearOf 0 a × ZeroBeside dateRefusalOf monthOf 0 a × ZeroBeside dateRefusalOf dayOfMonthOf 0 a
+  pub date-to-day : (y m d : ℕ) → dateRefusalOf (dayOf y m d) ≡ firstRefusal (refusal1 y ∷ refusal2 m ∷ refusal3 y m d ∷ [])
+  pub date-to-day-zero : (a : DayAnswer) → ZeroBeside dateRefusalOf dayNumberOf (pos 0) a
+  pub day-to-date : (z : ℤ) → dayRefusalOf (dateOf z) ≡ firstRefusal (refusal8 z ∷ [])
+  pub day-to-date-zero : (a : DateAnswer) → ZeroBeside dayRefusalOf yearOf 0 a × ZeroBeside dayRefusalOf monthOf 0 a × ZeroBeside dayRefusalOf dayOfMonthOf 0 a
   -- (b)
   pub date-and-time : (y m d h n s u : ℕ) → instantRefusalOf (instantOf y m d h n s u)
       ≡ firstRefusal (refusal1 y ∷ refusal2 m ∷ refusal3 y m d ∷ refusal4 h ∷ refusal5 n ∷ refusal6 s ∷ refusal7 u ∷ [])
@@ -121,16 +122,16 @@ pub record AnyInputIsAnswered : Type 0 where
   pub join : (d : ℤ) (t : ℕ) → joinRefusalOf (joinOf d t) ≡ firstRefusal (refusal8 d ∷ refusal9 (t % 137_438_953_472) ∷ refusal10 d t ∷ [])
   pub join-zero : (a : JoinAnswer) → ZeroBeside joinRefusalOf joinedDayOf (pos 0) a × ZeroBeside joinRefusalOf joinedMicrosOf 0 a
   -- (d)
-  pub phase : (d : ℤ) (m : ℕ) (k : Doodson) → tide.refusalOf (tide.tideOf d m k) ≡ firstRefusal (refusal8 d ∷ refusal9 m ∷ refusal11 k ∷ [])
-  pub phase-zero : (a : tideAnswer.Answer) → ZeroBeside tide.refusalOf tide.frequencyOf zero64 a × ZeroBeside tide.refusalOf tide.phaseOf zero64 a
+  pub phase : (d : ℤ) (m : ℕ) (k : Doodson) → tide.tideRefusalOf (tide.tideOf d m k) ≡ firstRefusal (refusal8 d ∷ refusal9 m ∷ refusal11 k ∷ [])
+  pub phase-zero : (a : tideAnswer.TideAnswer) → ZeroBeside tide.tideRefusalOf tide.frequencyOf zero64 a × ZeroBeside tide.tideRefusalOf tide.phaseOf zero64 a
   -- (e)
-  pub corrections : (d : ℤ) (m : ℕ) → zonal.refusalOf (zonal.zonalOf d m) ≡ firstRefusal (refusal8 d ∷ refusal9 m ∷ [])
+  pub corrections : (d : ℤ) (m : ℕ) → zonal.zonalRefusalOf (zonal.zonalOf d m) ≡ firstRefusal (refusal8 d ∷ refusal9 m ∷ [])
   pub corrections-zero : (a : ZonalAnswer)
-      → ZeroBeside zonal.refusalOf zonal.ut1Of (pos 0) a × ZeroBeside zonal.refusalOf zonal.lodOf (pos 0) a × ZeroBeside zonal.refusalOf zonal.rateOf (pos 0) a
+      → ZeroBeside zonal.zonalRefusalOf zonal.ut1Of (pos 0) a × ZeroBeside zonal.zonalRefusalOf zonal.lodOf (pos 0) a × ZeroBeside zonal.zonalRefusalOf zonal.rateOf (pos 0) a
   -- (f)
-  pub offsets : (d : ℤ) (m : ℕ) → nutation.refusalOf (nutation.nutationOf d m) ≡ firstRefusal (refusal8 d ∷ refusal9 m ∷ [])
+  pub offsets : (d : ℤ) (m : ℕ) → nutation.nutationRefusalOf (nutation.nutationOf d m) ≡ firstRefusal (refusal8 d ∷ refusal9 m ∷ [])
   pub offsets-zero : (a : NutationAnswer)
-      → ZeroBeside nutation.refusalOf nutation.xOf (pos 0) a × ZeroBeside nutation.refusalOf nutation.yOf (pos 0) a × ZeroBeside nutation.refusalOf nutation.uncertaintyOf 0 a
+      → ZeroBeside nutation.nutationRefusalOf nutation.xOf (pos 0) a × ZeroBeside nutation.nutationRefusalOf nutation.yOf (pos 0) a × ZeroBeside nutation.nutationRefusalOf nutation.uncertaintyOf 0 a
   -- (g), one record
   pub record-write : (d : ℤ) (m n : ℕ) → writeRefusal d m n ≡ firstRefusal (refusal8 d ∷ refusal9 m ∷ refusal12 n 30 ∷ [])
   pub record-write-keeps : (d : ℤ) (m : ℕ) (ut1 lod rate : ℤ) (old : List ℕ) → (writeRefusal d m (length old) ≡ 0 → ⊥) → written d m ut1 lod rate old ≡ old

@@ -5,12 +5,12 @@ use mathlib.Core.Path.{_≡_}
 use mathlib.Core.List.{List}
 use lib.IntN.{ℤ, pos}
 use lib.ListN.{length, take, drop}
-use Rattle.calendar.specs.Instants.{IsAccepted}
-use Rattle.arguments.specs.Exact.{sinceJ2000}
+use Rattle.instants.specs.Instants.{IsAccepted, laterDay, laterMicros}
+use Rattle.instants.specs.Moments.{sinceJ2000}
 use Rattle.zonal.specs.Within.{promised, Within, Answered}
 use Rattle.zonal.specs.declared.Corrections.{Corrections}
 use Rattle.record.specs.Format.{recordLength}
-use Rattle.run.specs.Run.{laterDay, laterMicros, runRefusal, runWritten}
+use Rattle.run.specs.Run.{runRefusal, runWritten}
 use Rattle.run.specs.ReadBack.{ReadsAt}
 use Rattle.nutation.specs.Table.{builtIn}
 use Rattle.nutation.specs.Ours.{nutationOf}
@@ -18,7 +18,7 @@ use Rattle.nutation.specs.Exact.{exactX, exactY, exactDen}
 use Rattle.nutation.specs.Claims as nutation
 use Rattle.nutation.specs.Claims.{OffsetsNear}
 use Rattle.nutation.specs.declared.Offsets.{Offsets}
-use Rattle.nutation.specs.declared.NutationAnswer.the-variants.{Given}
+use Rattle.nutation.specs.declared.NutationAnswer.the-variants.{Nutation}
 
 pub record Distance : Type 0 where
   -- an accepted instant exists: the instant of RG_ZONT2's own case
@@ -34,7 +34,7 @@ pub record Distance : Type 0 where
   -- a run that is not refused exists: ninety-six records a quarter of an hour apart, and a day apart, from day 54465 on
   pub some-run : (n : ℕ) → recordLength * 96 ≤ n → (runRefusal (pos 54465) 0 96 900_000_000 n ≡ 0) × (runRefusal (pos 54465) 0 96 86_400_000_000 n ≡ 0)
   -- (f) every accepted instant is answered by two offsets within 2 nanoarcseconds of the exact ones, and the exact uncertainty
-  pub offsets-near : (d : ℤ) (m : ℕ) → IsAccepted d m → (o : Offsets) × (nutationOf d m ≡ Given o) × OffsetsNear builtIn (sinceJ2000 d m) o
+  pub offsets-near : (d : ℤ) (m : ℕ) → IsAccepted d m → (o : Offsets) × (nutationOf d m ≡ Nutation o) × OffsetsNear builtIn (sinceJ2000 d m) o
   -- no constant offset would do
   pub offsets-vary : (c : ℤ)
       → (((d : ℤ) (m : ℕ) → IsAccepted d m → nutation.Within c (exactX builtIn (sinceJ2000 d m)) (exactDen builtIn (sinceJ2000 d m))) → ⊥)

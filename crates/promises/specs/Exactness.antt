@@ -7,12 +7,12 @@ use lib.IntN.{ℤ, pos, _+ℤ_, _-ℤ_, natAbs}
 use lib.ListN.{length, take, drop, getD, set}
 use mir.Syntax.{w32}
 use mir.Val.{SFits}
-use Rattle.calendar.specs.Limits.{dayMicros}
-use Rattle.calendar.specs.Instants.{instant, outside, indexAt, IsAccepted}
+use Rattle.instants.specs.Limits.{dayMicros}
+use Rattle.instants.specs.Instants.{instant, outside, dayIndex, IsAccepted, laterDay, laterMicros}
 use Rattle.calendar.specs.Dates.{date, next, dateAfter, dayOf, dateOf}
 use Rattle.calendar.specs.Times.{instantOf}
 use Rattle.calendar.specs.declared.Date.{Date}
-use Rattle.calendar.specs.declared.Instant.{Instant}
+use Rattle.instants.specs.declared.Instant.{Instant}
 use Rattle.calendar.specs.declared.DayAnswer.the-variants.{Day}
 use Rattle.calendar.specs.declared.DateAnswer.the-variants.{OnDate}
 use Rattle.calendar.specs.declared.InstantAnswer.the-variants.{AtInstant}
@@ -23,14 +23,14 @@ use Rattle.tide.specs.Binary64.{zero64}
 use Rattle.tide.specs.Tidal.{tideOf, frequencyOf, phaseOf, doodson}
 use Rattle.tide.specs.Claims.{Finite, InTurn}
 use Rattle.tide.specs.declared.Doodson.{Doodson}
-use Rattle.tide.specs.declared.Answer.the-variants as tideCase
+use Rattle.tide.specs.declared.TideAnswer.the-variants as tideCase
 use Rattle.bigendian.specs.Numbers.{Bytes}
 use Rattle.record.specs.Format.{recordLength}
 use Rattle.record.specs.Records.{writeRefusal, written, readOf}
 use Rattle.record.specs.declared.Record.{Record}
 use Rattle.record.specs.declared.ReadAnswer.the-variants.{IsRecord}
-use Rattle.arguments.specs.Exact.{sinceJ2000}
-use Rattle.run.specs.Run.{laterDay, laterMicros, runRefusal, recordAt, runWritten}
+use Rattle.instants.specs.Moments.{sinceJ2000}
+use Rattle.run.specs.Run.{runRefusal, recordAt, runWritten}
 
 -- a record's five fields
 abbrev pub fields : (d : ℤ) (m : ℕ) (ut1 lod rate : ℤ) → Record
@@ -41,7 +41,7 @@ pub record Exactness : Type 0 where
   pub date-there-and-back : (y m d : ℕ) (z : ℤ) → dayOf y m d ≡ Day z → dateOf z ≡ OnDate (date y m d)
   pub day-there-and-back : (z : ℤ) (t : Date) → dateOf z ≡ OnDate t → dayOf (t .year) (t .month) (t .day) ≡ Day z
   -- every day number in range has a date, and the next day is the next date, month and year ends included
-  pub every-day-has-a-date : (z : ℤ) → outside z ≡ false → dateOf z ≡ OnDate (dateAfter (indexAt z))
+  pub every-day-has-a-date : (z : ℤ) → outside z ≡ false → dateOf z ≡ OnDate (dateAfter (dayIndex z))
   pub next-day-next-date : (z : ℤ) (t : Date) → dateOf z ≡ OnDate t → outside (z +ℤ pos 1) ≡ false → dateOf (z +ℤ pos 1) ≡ OnDate (next t)
   -- (b) the instant of a date and time is accepted, and of the date's day
   pub instant-of-date : (y m d h n s u : ℕ) (t : Instant) → instantOf y m d h n s u ≡ AtInstant t → (dayOf y m d ≡ Day (t .day)) × IsAccepted (t .day) (t .micros)
@@ -55,7 +55,7 @@ pub record Exactness : Type 0 where
   pub frequency-finite : (d : ℤ) (m : ℕ) (k : Doodson) → Finite (frequencyOf (tideOf d m k))
   pub phase-in-turn : (d : ℤ) (m : ℕ) (k : Doodson) → InTurn (phaseOf (tideOf d m k))
   pub zeros-give-zero : (d : ℤ) (m : ℕ) → IsAccepted d m
-      → tideOf d m (doodson (pos 0) (pos 0) (pos 0) (pos 0) (pos 0) (pos 0)) ≡ tideCase.Given (record { frequency = zero64; phase = zero64 })
+      → tideOf d m (doodson (pos 0) (pos 0) (pos 0) (pos 0) (pos 0) (pos 0)) ≡ tideCase.Tide (record { frequency = zero64; phase = zero64 })
   -- (g) a record written at an accepted instant, with any three numbers of 32 bits, into thirty bytes or more reads back as it was
   pub record-reads-back : (d : ℤ) (m : ℕ) (ut1 lod rate : ℤ) (old : List ℕ) → IsAccepted d m → recordLength ≤ length old → SFits w32 ut1 → SFits w32 lod → SFits w32 rate
       → readOf (written d m ut1 lod rate old) ≡ IsRecord (fields d m ut1 lod rate)

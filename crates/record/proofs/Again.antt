@@ -10,7 +10,7 @@ use lib.Seq.{take-add}
 use Rattle.bigendian.specs.Numbers.{Bytes, bytesOf, numberAt, wordSum, twos32, signed32}
 use Rattle.bigendian.proofs.Numbers.{number-below, bytes-number, sum-next, sum-take}
 use Rattle.bigendian.proofs.Signs.{signed-bits}
-use Rattle.calendar.proofs.Index.{accepted}
+use Rattle.instants.proofs.Accepted.{accepted}
 use Rattle.clock.specs.declared.ClockWords.{ClockWords}
 use Rattle.clock.specs.declared.SplitAnswer.the-variants.{Split}
 use Rattle.clock.specs.Words.{splitOf, words}

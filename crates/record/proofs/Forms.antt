@@ -7,11 +7,11 @@ use borrow.Author.Tests.{ltb-false, eqb-true, le-ltb, eq-eqb}
 use lib.IntN.{ℤ, pos}
 use lib.ListN.{length}
 use Rattle.bigendian.specs.Numbers.{numberAt, wordSum}
-use Rattle.calendar.specs.declared.Instant.{Instant}
-use Rattle.calendar.specs.Refusals.{refusedOr}
-use Rattle.calendar.specs.Instants.{instant}
-use Rattle.calendar.proofs.Cases.{no-case}
-use Rattle.calendar.proofs.FirstRefusal.{NoneApplies, answered-none, none-answered, refused-alike, first-none}
+use Rattle.instants.specs.declared.Instant.{Instant}
+use Rattle.instants.specs.Refusals.{refusedOr}
+use Rattle.instants.specs.Instants.{instant}
+use Rattle.instants.proofs.Impossible.{impossible}
+use Rattle.instants.proofs.FirstRefusal.{NoneApplies, answered-none, none-answered, refused-alike, first-none}
 use Rattle.clock.specs.declared.JoinAnswer.the-variants.{Joined, NoJoin}
 use Rattle.clock.specs.Words.{markUnit, joinCases, joinOf}
 use Rattle.record.specs.declared.Record.{Record}
@@ -29,7 +29,7 @@ pub record Formed (s : List ℕ) : Type 0 where
 
 not-false : (b : Bool) → not b ≡ false → b ≡ true
 not-false true e = refl
-not-false false e = no-case (cc)
+not-false false e = impossible (cc)
 
 none-formed : (s : List ℕ) → NoneApplies (formCases s) → Formed s
 none-formed s h = record {
@@ -61,7 +61,7 @@ unfolding readOf joinOf
 was-read s r e =
     let d = pos (numberAt s 4 4) in
     let t = numberAt s 8 8 in
-    let q = answered-none NoRecord (readCases s) (IsRecord (recordOf (instant d (t % markUnit)) s)) (IsRecord r) (λ n p. no-case (cc)) e in
+    let q = answered-none NoRecord (readCases s) (IsRecord (recordOf (instant d (t % markUnit)) s)) (IsRecord r) (λ n p. impossible (cc)) e in
     let n = q .0 in
     let g : IsRecord (recordOf (instant d (t % markUnit)) s) ≡ IsRecord r = q .1 in
     record {
@@ -85,12 +85,12 @@ module _ (s : List ℕ) (e : formRefusal s ≡ 0) where
 
   pub read-refused : (n : ℕ) → joinOf day time ≡ NoJoin n → readOf s ≡ NoRecord n
   unfolding joinOf
-  read-refused n j = words-read ∙ refused-alike NoJoin NoRecord (joinCases day time) _ _ n (λ k p. cc) (λ p. no-case (cc)) j
+  read-refused n j = words-read ∙ refused-alike NoJoin NoRecord (joinCases day time) _ _ n (λ k p. cc) (λ p. impossible (cc)) j
 
   pub read-joined : (i : Instant) → joinOf day time ≡ Joined i → readOf s ≡ IsRecord (recordOf i s)
   unfolding joinOf
   read-joined i j =
-      let q = answered-none NoJoin (joinCases day time) (Joined (instant day (time % markUnit))) (Joined i) (λ n p. no-case (cc)) j in
+      let q = answered-none NoJoin (joinCases day time) (Joined (instant day (time % markUnit))) (Joined i) (λ n p. impossible (cc)) j in
       let g : Joined (instant day (time % markUnit)) ≡ Joined i = q .1 in
       let f : instant day (time % markUnit) ≡ i = cc in
       words-read ∙ (none-answered NoRecord (joinCases day time) _ (q .0) ∙ ap (λ (x : Instant). IsRecord (recordOf x s)) f)

@@ -10,7 +10,7 @@ use lib.ListN.{length, take, drop, length-append, length-drop}
 use lib.Seq.{take-all, length-take-le, drop-at}
 use Rattle.bigendian.specs.Numbers.{numberAt}
 use Rattle.bigendian.proofs.Numbers.{number-take, sum-take}
-use Rattle.calendar.proofs.FirstRefusal.{in-both}
+use Rattle.instants.proofs.FirstRefusal.{in-both}
 use Rattle.clock.specs.Words.{timeWord, words}
 use Rattle.record.specs.Format.{recordLength, recordBytes}
 use Rattle.record.specs.Records.{writeCases, writeRefusal, written, readOf}

@@ -12,8 +12,8 @@ use mir.Val.{SFits}
 use Rattle.bigendian.specs.Numbers.{bytesOf, numberAt, wordSum, twos32, signed32}
 use Rattle.bigendian.proofs.Numbers.{number-bytes, sum-next, sum-take}
 use Rattle.bigendian.proofs.Signs.{bits-small, bits-signed}
-use Rattle.calendar.specs.Instants.{instant, indexAt, IsAccepted}
-use Rattle.calendar.proofs.Index.{AcceptedAt, accepted-at}
+use Rattle.instants.specs.Instants.{instant, dayIndex, IsAccepted}
+use Rattle.instants.proofs.Accepted.{AcceptedAt, accepted-at}
 use Rattle.clock.specs.declared.ClockWords.{ClockWords}
 use Rattle.clock.specs.Words.{mark, timeWord, words}
 use Rattle.clock.proofs.Words.{split-then-join}
@@ -21,6 +21,7 @@ use Rattle.record.specs.declared.ReadAnswer.the-variants.{IsRecord}
 use Rattle.record.specs.Format.{recordLength, fieldBytes, negated, recordBytes}
 use Rattle.record.specs.Records.{written, readOf}
 use Rattle.record.proofs.Written.{written-is}
+use Rattle.instants.specs.Limits.{indexOffset}
 use Rattle.record.proofs.Forms.{Formed, form-right, read-joined, alike}
 
 -- the words of a record add to 0, wrapped
@@ -61,8 +62,8 @@ module _ (w : ClockWords) (ut1 lod rate : ℤ) (rest : List ℕ) where
   rate-back f = signed-back rate f (number-bytes (take 24 S) 4 (twos32 rate) (drop 28 S))
 
 -- an accepted day number is not negative, so its bits are itself
-day-bits : (d : ℤ) (m i : ℕ) → AcceptedAt d m i → d ≡ pos (i - 94553)
-day-bits d m i a = a .is ∙ simp (le-ltb i 94553 (omega (arith, a .low)))
+day-bits : (d : ℤ) (m i : ℕ) → AcceptedAt d m i → d ≡ pos (i - indexOffset)
+day-bits d m i a = a .is ∙ simp (le-ltb i indexOffset (omega (arith, a .low)))
 
 mark-small : (d : ℤ) → mark d < 8
 mark-small (pos n) = omega arith
@@ -73,9 +74,9 @@ pub read-back : (d : ℤ) (m : ℕ) (ut1 lod rate : ℤ) (rest : List ℕ) → I
     → readOf (recordBytes (words d (timeWord d m)) ut1 lod rate ++ rest) ≡ IsRecord (record { day = d; micros = m; ut1 = ut1; lod = lod; rate = rate })
 unfolding recordBytes
 read-back d m ut1 lod rate rest a f g h =
-    let t : AcceptedAt d m (indexAt d) = accepted-at d m (indexAt d) a in
-    let e : d ≡ pos (indexAt d - 94553) = day-bits d m (indexAt d) t in
-    let p : twos32 d < 4294967296 = rw e (let k : indexAt d - 94553 < 4294967296 = omega (arith, t .high) in k) in
+    let t : AcceptedAt d m (dayIndex d) = accepted-at d m (dayIndex d) a in
+    let e : d ≡ pos (dayIndex d - indexOffset) = day-bits d m (dayIndex d) t in
+    let p : twos32 d < 4294967296 = rw e (let k : dayIndex d - indexOffset < 4294967296 = omega (arith, t .high) in k) in
     let q : pos (twos32 d) ≡ d = rw e refl in
     let l : timeWord d m < 18446744073709551616 = omega (arith, t .less, mark-small d) in
     let w : ClockWords = words d (timeWord d m) in

@@ -10,16 +10,17 @@ use lib.IntN.{ℤ, pos, negsuc, _-ℤ_}
 use lib.ListN.{length, take, drop}
 use mir.Syntax.{w32}
 use mir.Val.{SFits}
-use Rattle.calendar.specs.Refusals.{refusedOr}
-use Rattle.calendar.specs.Instants.{indexAt, instantCases, IsAccepted}
-use Rattle.calendar.proofs.Cases.{no-case}
-use Rattle.calendar.proofs.FirstRefusal.{refused-alike}
-use Rattle.calendar.proofs.Index.{accepted-at}
+use Rattle.instants.specs.Refusals.{refusedOr}
+use Rattle.instants.specs.Instants.{dayIndex, instantCases, IsAccepted}
+use Rattle.instants.proofs.Impossible.{impossible}
+use Rattle.instants.proofs.FirstRefusal.{refused-alike}
+use Rattle.instants.proofs.Accepted.{accepted-at}
 use Rattle.clock.specs.declared.ClockWords.{ClockWords}
 use Rattle.clock.specs.declared.SplitAnswer.the-variants.{Split, NoSplit}
 use Rattle.clock.specs.Words.{timeWord, words, splitOf}
 use Rattle.clock.proofs.Words.{WasSplit, was-split}
 use Rattle.record.specs.Format.{recordLength, recordBytes}
+use Rattle.instants.specs.Limits.{indexOffset}
 use Rattle.record.specs.Records.{writeRefusal, written}
 
 module _ (d : ℤ) (m : ℕ) (ut1 lod rate : ℤ) (old : List ℕ) where
@@ -28,7 +29,7 @@ module _ (d : ℤ) (m : ℕ) (ut1 lod rate : ℤ) (old : List ℕ) where
   refused n e = (by (λ k. k) _, by (λ _. old) _)
     where
       by : {A : Type 0} (refuse : ℕ → A) (a : A) → refuse n ≡ refusedOr refuse (instantCases d m) a
-      by refuse a = sym (refused-alike NoSplit refuse (instantCases d m) _ a n (λ k p. cc) (λ p. no-case (cc)) e)
+      by refuse a = sym (refused-alike NoSplit refuse (instantCases d m) _ a n (λ k p. cc) (λ p. impossible (cc)) e)
 
   pub short : (w : ClockWords) → splitOf d m ≡ Split w → length old < recordLength → (12 ≡ writeRefusal d m (length old)) × (old ≡ written d m ut1 lod rate old)
   unfolding writeRefusal written
@@ -53,15 +54,15 @@ pub written-is : (d : ℤ) (m : ℕ) (ut1 lod rate : ℤ) (old : List ℕ) → I
 unfolding written
 written-is d m ut1 lod rate old a h = let k = accepted-at d m _ a in simp (k .inside, k .within, le-ltb (length old) 30 h)
 
--- the day word of an accepted instant, -94553 and later, fits 32 bits
-day-word : (i : ℕ) → i < 2147483648 → SFits w32 (pos i -ℤ pos 94553)
-day-word i h = by (ltb i 94553) refl
+-- the day word of an accepted instant, -indexOffset and later, fits 32 bits
+day-word : (i : ℕ) → i < 2147483648 → SFits w32 (pos i -ℤ pos indexOffset)
+day-word i h = by (ltb i indexOffset) refl
   where
-    by : (t : Bool) → ltb i 94553 ≡ t → SFits w32 (cond t (negsuc (94553 - suc i)) (pos (i - 94553)))
+    by : (t : Bool) → ltb i indexOffset ≡ t → SFits w32 (cond t (negsuc (indexOffset - suc i)) (pos (i - indexOffset)))
     by true p = record { sfits = omega arith }
     by false p = record { sfits = omega arith }
 
 pub day-fits : (d : ℤ) (m : ℕ) (w : ClockWords) → splitOf d m ≡ Split w → SFits w32 (w .day)
 day-fits d m w e =
     let s : WasSplit d m w = was-split d m w e in
-    rw (s .is, s .accepted .is) (day-word (indexAt d) (omega (arith, s .accepted .high)))
+    rw (s .is, s .accepted .is) (day-word (dayIndex d) (omega (arith, s .accepted .high)))

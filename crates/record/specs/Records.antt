@@ -6,9 +6,9 @@ use lib.Dec.{eqb, ltb}
 use lib.IntN.{ℤ, pos}
 use lib.ListN.{length, drop}
 use Rattle.bigendian.specs.Numbers.{numberAt, wordSum, signed32}
-use Rattle.calendar.specs.declared.Instant.{Instant}
-use Rattle.calendar.specs.Refusals.{Case, case, refusedOr, firstRefusal}
-use Rattle.calendar.specs.Instants.{instant, instantCases}
+use Rattle.instants.specs.declared.Instant.{Instant}
+use Rattle.instants.specs.Refusals.{Case, case, refusedOr, firstRefusal}
+use Rattle.instants.specs.Instants.{instant, instantCases}
 use Rattle.clock.specs.Words.{markUnit, timeWord, words, joinCases}
 use Rattle.record.specs.declared.Record.{Record}
 use Rattle.record.specs.declared.ReadAnswer.{ReadAnswer}

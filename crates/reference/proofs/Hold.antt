@@ -1,7 +1,7 @@
 -- Every reference value holds of the definitions. Assumes nothing.
 use mathlib.Core.Path.{refl}
-use Rattle.calendar.specs.Instants.{outside, indexAt, acceptance}
-use Rattle.calendar.specs.Dates.{leapYear, monthLengths, monthLength, sum, yearLength, daysOfYears, daysBefore, indexOf, numberOf, dayOf}
+use Rattle.instants.specs.Instants.{outside, dayIndex, acceptance, dayAtIndex}
+use Rattle.calendar.specs.Dates.{leapYear, monthLengths, monthLength, sum, yearLength, daysOfYears, daysBefore, dateIndex, dayOf}
 use Rattle.clock.specs.Words.{splitOf, joinOf}
 use Rattle.bigendian.specs.Numbers.{wordSum}
 use Rattle.record.specs.Format.{recordBytes}
@@ -13,7 +13,7 @@ use Rattle.reference.specs.Rows.{Says, EveryRow, rows}
 
 -- PROMISE. Every row of the list of reference values holds.
 pub every-row : EveryRow rows
-unfolding EveryRow Says rows outside indexAt acceptance leapYear monthLengths monthLength sum yearLength daysOfYears daysBefore indexOf numberOf dayOf splitOf joinOf wordSum recordBytes formRefusal readOf builtIn rowDate started place span value uValue uParts uncertaintyAt offsetsAt nutationOf
+unfolding EveryRow Says rows outside dayIndex acceptance leapYear monthLengths monthLength sum yearLength daysOfYears daysBefore dateIndex dayAtIndex dayOf splitOf joinOf wordSum recordBytes formRefusal readOf builtIn rowDate started place span value uValue uParts uncertaintyAt offsetsAt nutationOf
 every-row = (
   refl,
   (

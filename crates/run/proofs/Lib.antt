@@ -1,4 +1,3 @@
-pub mod Instants
 pub mod Refusals
 pub mod Records
 pub mod ReadBack

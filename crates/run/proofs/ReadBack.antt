@@ -11,9 +11,9 @@ use lib.Seq.{take-at, drop-at}
 use borrow.Author.Tests.{le-ltb}
 use Rattle.algebra.specs.Integers.{+_}
 use Rattle.algebra.proofs.Ring.{end, _▸_, ring, quote}
-use Rattle.arguments.specs.Exact.{sinceJ2000}
-use Rattle.calendar.specs.Limits.{dayMicros}
-use Rattle.calendar.specs.Instants.{outside, indexAt, IsAccepted}
+use Rattle.instants.specs.Moments.{sinceJ2000}
+use Rattle.instants.specs.Limits.{dayMicros}
+use Rattle.instants.specs.Instants.{outside, dayIndex, IsAccepted, laterDay, laterMicros}
 use Rattle.record.specs.Format.{recordLength}
 use Rattle.record.proofs.Round.{read-back}
 use Rattle.zonal.specs.declared.Corrections.{Corrections}
@@ -21,7 +21,7 @@ use Rattle.zonal.specs.Within.{promised, Answered}
 use Rattle.zonal.proofs.Promises.{accepted-answered, given-accepted}
 use Rattle.zonal.proofs.Sizes.{Fit, corrections-fit}
 use Rattle.zonal.proofs.Worked.{no-constant}
-use Rattle.run.specs.Run.{laterDay, laterMicros, runRefusal, recordAt, runBytes, runWritten}
+use Rattle.run.specs.Run.{runRefusal, recordAt, runBytes, runWritten}
 use Rattle.run.specs.ReadBack.{ReadsAt}
 use Rattle.run.proofs.Refusals.{run-accepted}
 use Rattle.run.proofs.Records.{thirty, run-length, run-written}
@@ -85,7 +85,7 @@ record-reads d m a = by (accepted-answered d m a)
   where
     by : Answered promised d m → ReadsAt d m (recordAt d m)
     by w =
-        let f : Fit (w .numbers) = rw (given-accepted d m (w .numbers) (w .given) .1) (corrections-fit (indexAt d) m) in
+        let f : Fit (w .numbers) = rw (given-accepted d m (w .numbers) (w .given) .1) (corrections-fit (dayIndex d) m) in
         let b = read-back d m (w .numbers .ut1) (w .numbers .lod) (w .numbers .rate) [] a (f .ut1) (f .lod) (f .rate) in
         record { answered = w; reads = rw (w .given) (simp append-nil at b) }
 

@@ -8,16 +8,16 @@ use lib.IntN.{ℤ}
 use lib.ListN.{length, take, drop, length-append, length-drop}
 use lib.Seq.{take-at, drop-at, drop-drop, take-all, drop-length}
 use borrow.Author.Tests.{ltb-false}
-use Rattle.calendar.specs.Instants.{instantCases, IsAccepted}
-use Rattle.calendar.proofs.Cases.{no-case}
-use Rattle.calendar.proofs.FirstRefusal.{in-each, refused-alike, none-answered, refused-first, first-none}
+use Rattle.instants.specs.Instants.{instantCases, IsAccepted, laterDay, laterMicros}
+use Rattle.instants.proofs.Impossible.{impossible}
+use Rattle.instants.proofs.FirstRefusal.{in-each, refused-alike, none-answered, refused-first, first-none}
 use Rattle.record.specs.Format.{recordLength}
 use Rattle.record.specs.Records.{written}
 use Rattle.record.proofs.Written.{written-is, record-length}
 use Rattle.zonal.specs.declared.Corrections.{Corrections}
-use Rattle.zonal.specs.declared.ZonalAnswer.the-variants.{Given, Refused}
+use Rattle.zonal.specs.declared.ZonalAnswer.the-variants.{Zonal, NoZonal}
 use Rattle.zonal.specs.Ours.{zonalOf}
-use Rattle.run.specs.Run.{laterDay, laterMicros, runCases, runRefusal, recordAt, runBytes, runWritten}
+use Rattle.run.specs.Run.{runCases, runRefusal, recordAt, runBytes, runWritten}
 use Rattle.run.specs.Inner.{writtenAt}
 
 -- the record of an accepted instant, written at the front of a buffer with room for it
@@ -26,12 +26,12 @@ unfolding writtenAt recordAt
 written-accepted d m old a h = written-is d m _ _ _ old a h
 
 -- an instant without corrections has no record
-pub written-refused : (d : ℤ) (m n : ℕ) (old : List ℕ) → zonalOf d m ≡ Refused n → old ≡ writtenAt d m old
+pub written-refused : (d : ℤ) (m n : ℕ) (old : List ℕ) → zonalOf d m ≡ NoZonal n → old ≡ writtenAt d m old
 unfolding writtenAt written zonalOf
-written-refused d m n old e = sym (refused-alike Refused (λ _. old) (instantCases d m) _ _ n (λ k p. cc) (λ p. no-case (cc)) e)
+written-refused d m n old e = sym (refused-alike NoZonal (λ _. old) (instantCases d m) _ _ n (λ k p. cc) (λ p. impossible (cc)) e)
 
 -- and one with corrections has that of its numbers
-pub written-given : (d : ℤ) (m : ℕ) (c : Corrections) (old : List ℕ) → zonalOf d m ≡ Given c → written d m (c .ut1) (c .lod) (c .rate) old ≡ writtenAt d m old
+pub written-given : (d : ℤ) (m : ℕ) (c : Corrections) (old : List ℕ) → zonalOf d m ≡ Zonal c → written d m (c .ut1) (c .lod) (c .rate) old ≡ writtenAt d m old
 unfolding writtenAt
 written-given d m c old e = rw e refl
 

@@ -1,5 +1,5 @@
 -- When a run is refused. Assumes nothing.
-use Prim.Native.Nat.{ℕ, _+_, _-_, _*_, _/_, _≤_, _<_}
+use Prim.Native.Nat.{ℕ, _+_, _-_, _*_, _/_, _^_, _≤_, _<_}
 use mathlib.Core.Path.{_≡_, refl, sym, _∙_}
 use mathlib.Core.Bool.{false, cond, _||_}
 use native.Mathlib.Nat.{mul-le-mul, mul-le-mul-right}
@@ -8,13 +8,13 @@ use lib.Dec.{ltb}
 use lib.IntN.{ℤ}
 use lib.Signed.{ltZ}
 use borrow.Author.Tests.{ltb-false, le-ltb, lt-leb}
-use Rattle.calendar.specs.Limits.{lastDay, dayMicros}
-use Rattle.calendar.specs.Instants.{indexAt, instantCases, acceptance, acceptanceRefusal, IsAccepted}
-use Rattle.calendar.proofs.FirstRefusal.{refused-first, first-none}
-use Rattle.calendar.proofs.Index.{both-false, accepted-at, accepted-none, acceptance-refusal}
+use Rattle.instants.specs.Limits.{lastDay, dayMicros}
+use Rattle.instants.specs.Instants.{dayIndex, instantCases, acceptance, acceptanceRefusal, IsAccepted, laterDay, laterMicros}
+use Rattle.instants.proofs.FirstRefusal.{refused-first, first-none}
+use Rattle.instants.proofs.Accepted.{both-false, accepted-at, accepted-none, acceptance-refusal}
 use Rattle.record.specs.Format.{recordLength}
-use Rattle.run.specs.Run.{mostRecords, laterDay, laterMicros, runCases, runRefusal}
-use Rattle.run.proofs.Instants.{outside-later, past-earlier, later-accepted}
+use Rattle.run.specs.Run.{mostRecords, runCases, runRefusal}
+use Rattle.instants.proofs.LaterInstants.{outside-later, past-earlier, later-accepted}
 
 -- ---- the refusal of an instant
 
@@ -26,7 +26,7 @@ none-accepted d m e = accepted-none d m (first-none (instantCases d m) tt (sym (
 pub later-refusal : (d : ℤ) (m t : ℕ) → IsAccepted d m → acceptanceRefusal (acceptance (laterDay d m t) (laterMicros m t)) ≡ cond (ltZ lastDay (laterDay d m t)) 8 0
 later-refusal d m t a =
     acceptance-refusal (laterDay d m t) (laterMicros m t)
-    ∙ rw (outside-later d _ (accepted-at d m (indexAt d) a .inside), lt-leb dayMicros (laterMicros m t) (omega arith)) refl
+    ∙ rw (outside-later d _ (accepted-at d m (dayIndex d) a .inside), lt-leb dayMicros (laterMicros m t) (omega arith)) refl
 
 -- ---- the refusal of a run
 
@@ -50,7 +50,7 @@ module _ (d : ℤ) (m count step n : ℕ) (h : Counted count step) where
   pub refused-later : IsAccepted d m → runRefusal d m count step n ≡ cond (ltZ lastDay (laterDay d m ((count - 1) * step))) 8 (cond (ltb n (recordLength * count)) 12 0)
   unfolding runRefusal
   refused-later a =
-      let k = accepted-at d m (indexAt d) a in
+      let k = accepted-at d m (dayIndex d) a in
       simp (le-ltb count 1 (h .some), le-ltb mostRecords count (h .few), le-ltb step 1 (h .least), le-ltb dayMicros step (h .most), k .inside, k .within)
 
 -- What holds of a run that is not refused.
@@ -78,9 +78,12 @@ not-refused d m count step n e =
       room = ltb-false n (recordLength * count) (k .1 .0);
     }
 
--- the steps of a run together
-pub steps-few : (k step : ℕ) → k ≤ mostRecords → step ≤ dayMicros → k * step ≤ mostRecords * dayMicros
-steps-few k step h l = mul-le-mul h l
+-- the steps of a run together are few enough that the sums fit
+pub steps-few : (k step : ℕ) → k ≤ mostRecords → step ≤ dayMicros → k * step < 2 ^ 62
+steps-few k step h l = below (mul-le-mul h l)
+  where
+    below : k * step ≤ mostRecords * dayMicros → k * step < 2 ^ 62
+    below p = omega arith
 
 -- PROMISE. Every instant of a run that is not refused is accepted.
 pub run-accepted : (d : ℤ) (m count step n : ℕ) → runRefusal d m count step n ≡ 0 → (k : ℕ) → k < count → IsAccepted (laterDay d m (k * step)) (laterMicros m (k * step))

@@ -1,14 +1,14 @@
 -- Service (g): a run of records at equal steps from a start, each with the corrections of its own instant.
-use Prim.Native.Nat.{ℕ, zero, suc, _+_, _-_, _*_, _/_, _%_}
+use Prim.Native.Nat.{ℕ, zero, suc, _-_, _*_}
 use mathlib.Core.Bool.{Bool, _||_}
 use mathlib.Core.List.{List, [], _∷_, _++_}
 use lib.Dec.{ltb}
-use lib.IntN.{ℤ, pos, _+ℤ_}
+use lib.IntN.{ℤ}
 use lib.ListN.{length, drop}
 use lib.Signed.{ltZ}
-use Rattle.calendar.specs.Limits.{lastDay, dayMicros}
-use Rattle.calendar.specs.Refusals.{Case, case, refusedOr, firstRefusal}
-use Rattle.calendar.specs.Instants.{instantCases}
+use Rattle.instants.specs.Limits.{lastDay, dayMicros}
+use Rattle.instants.specs.Refusals.{Case, case, refusedOr, firstRefusal}
+use Rattle.instants.specs.Instants.{instantCases, laterDay, laterMicros}
 use Rattle.clock.specs.Words.{words, timeWord}
 use Rattle.record.specs.Format.{recordLength, recordBytes}
 use Rattle.zonal.specs.Ours.{zonalOf, ut1Of, lodOf, rateOf}
@@ -16,13 +16,6 @@ use Rattle.zonal.specs.Ours.{zonalOf, ut1Of, lodOf, rateOf}
 -- the most records of a run
 abbrev pub mostRecords : ℕ
 mostRecords = 96
-
--- the instant t microseconds after the instant d, m: its day number, and the microseconds of that day
-abbrev pub laterDay : ℤ → ℕ → ℕ → ℤ
-laterDay d m t = d +ℤ pos ((m + t) / dayMicros)
-
-abbrev pub laterMicros : ℕ → ℕ → ℕ
-laterMicros m t = (m + t) % dayMicros
 
 -- a count outside 1..96, and a step outside 1 to a day
 abbrev pub badCount : ℕ → Bool

@@ -1,35 +1,21 @@
 // A run of records at equal steps from a start, each with the corrections of its own instant.
-use calendar::Acceptance;
-use calendar::Instant;
+use instants::Acceptance;
+use instants::DAY_MICROS;
 use zonal::ZonalAnswer;
 ghost use mathlib.Core.Path.{_≡_};
 ghost use mathlib.Core.List.{_++_};
 ghost use Prim.Native.Nat.{_*_};
 ghost use lib.ListN.{length, drop};
-ghost use Rattle.calendar.specs.Instants.{acceptanceRefusal};
+ghost use Rattle.instants.specs.Instants.{acceptanceRefusal, laterDay, laterMicros};
 ghost use Rattle.record.specs.Format.{recordLength};
-ghost use Rattle.run.specs.Run.{laterDay, laterMicros, runRefusal, runBytes, runWritten};
-ghost use Rattle.run.specs.Inner.{laterInstant, InRun, writtenAt};
+ghost use Rattle.run.specs.Run.{runRefusal, runBytes, runWritten};
+ghost use Rattle.instants.specs.Inner.{LaterBounds};
+ghost use Rattle.run.specs.Inner.{writtenAt};
 
 const MOST_RECORDS: u64 = 96;
 
-// The microseconds of a day.
-const DAY_MICROS: u64 = 86400000000;
-
 // The bytes of a record.
 const LENGTH: usize = 30;
-
-// The instant t microseconds after an instant.
-fn later(day: i64, micros: u64, t: u64) -> Instant
-    requires { ⌜ InRun day micros t ⌝ }
-    ensures { λ r. ⌜ r ≡ laterInstant day micros t ⌝ }
-{
-    let sum = micros + t;
-    Instant {
-        day: day + ((sum / DAY_MICROS) as i64),
-        micros: sum % DAY_MICROS,
-    }
-}
 
 // The refusal of an instant, or 0.
 fn instant_refusal(a: Acceptance) -> u32
@@ -57,12 +43,12 @@ fn refusal(day: i64, micros: u64, count: u64, step: u64, size: usize) -> u32
     if DAY_MICROS < step {
         return 18;
     }
-    let start = instant_refusal(calendar::accept(day, micros));
+    let start = instant_refusal(instants::accept(day, micros));
     if start != 0 {
         return start;
     }
-    let last = later(day, micros, (count - 1) * step);
-    let end = instant_refusal(calendar::accept(last.day, last.micros));
+    let last = instants::later(day, micros, (count - 1) * step);
+    let end = instant_refusal(instants::accept(last.day, last.micros));
     if end != 0 {
         return end;
     }
@@ -74,15 +60,15 @@ fn refusal(day: i64, micros: u64, count: u64, step: u64, size: usize) -> u32
 
 // Writes the record of the instant t microseconds after an instant, with its corrections, at the front of the buffer.
 fn write_later(day: i64, micros: u64, t: u64, buffer: &mut [u8])
-    requires { ⌜ InRun day micros t ⌝ }
+    requires { ⌜ LaterBounds day micros t ⌝ }
     ensures { λ _. ⌜ now (buffer .exit) ≡ writtenAt (laterDay day micros t) (laterMicros micros t) (now (buffer .entry)) ⌝ }
 {
-    let i = later(day, micros, t);
+    let i = instants::later(day, micros, t);
     let d = i.day;
     let m = i.micros;
     match zonal::zonal_of(d, m) {
-        ZonalAnswer::Refused(_) => {}
-        ZonalAnswer::Given(c) => {
+        ZonalAnswer::NoZonal(_) => {}
+        ZonalAnswer::Zonal(c) => {
             record::write(d, m, c.ut1, c.lod, c.rate, buffer);
         }
     }

@@ -38,7 +38,7 @@ fn answer(input: &[u8]) {
             io::print_decimal(STDOUT_FILENO, size as u64);
             io::write_all(STDOUT_FILENO, b" bytes");
         }
-        Outcome::Refused(number) => {
+        Outcome::NoRun(number) => {
             io::write_all(STDOUT_FILENO, b"refused ");
             io::print_decimal(STDOUT_FILENO, number as u64);
         }

@@ -42,7 +42,7 @@ fn main() {
         Outcome::Run(size) => {
             io::write_all(STDOUT_FILENO, &buffer[..size]);
         }
-        Outcome::Refused(number) => refuse(number),
+        Outcome::NoRun(number) => refuse(number),
         Outcome::Bad => {
             io::write_all(STDOUT_FILENO, b"bad line\n");
         }

@@ -6,10 +6,10 @@ use lib.IntN.{ℤ}
 use lib.ListN.{length}
 use mathlib.Core.List.{List}
 use Rattle.calendar.specs.declared.DayAnswer.the-variants.{Day, NoDay}
-use Rattle.calendar.specs.Refusals.{refusedOr}
+use Rattle.instants.specs.Refusals.{refusedOr}
 use Rattle.calendar.specs.Dates.{dateCases, dayOf}
-use Rattle.calendar.proofs.Cases.{no-case}
-use Rattle.calendar.proofs.FirstRefusal.{refused-alike, answered-none, none-answered}
+use Rattle.instants.proofs.Impossible.{impossible}
+use Rattle.instants.proofs.FirstRefusal.{refused-alike, answered-none, none-answered}
 use Rattle.line.specs.declared.Line.{Line}
 use Rattle.line.specs.declared.LineAnswer.{LineAnswer}
 use Rattle.line.specs.declared.LineAnswer.the-variants.{Parsed, BadLine}
@@ -17,7 +17,7 @@ use Rattle.line.specs.Lines.{lineOf}
 use Rattle.record.specs.Format.{recordLength}
 use Rattle.run.specs.Run.{runRefusal, runWritten}
 use Rattle.run.proofs.Refusals.{not-refused}
-use Rattle.run_line.specs.declared.Outcome.the-variants.{Run, Refused, Bad}
+use Rattle.run_line.specs.declared.Outcome.the-variants.{Run, NoRun, Bad}
 use Rattle.run_line.specs.Answer.{second, lineDay, dayRunCases, lineCases, forLine, outcomeOf, filledOf}
 
 -- ---- the answer, case by case
@@ -28,23 +28,23 @@ module _ (s : List ℕ) (old : List ℕ) where
   bad e = rw e (refl, refl)
 
   module _ (l : Line) (e : lineOf s ≡ Parsed l) where
-    pub no-date : (n : ℕ) → dayOf (l .year) (l .month) (l .day) ≡ NoDay n → (Refused n ≡ outcomeOf s (length old)) × (old ≡ filledOf s old)
+    pub no-date : (n : ℕ) → dayOf (l .year) (l .month) (l .day) ≡ NoDay n → (NoRun n ≡ outcomeOf s (length old)) × (old ≡ filledOf s old)
     unfolding outcomeOf filledOf dayOf
-    no-date n f = rw e (by Refused _, by (λ _. old) _)
+    no-date n f = rw e (by NoRun _, by (λ _. old) _)
       where
         by : {A : Type 0} (refuse : ℕ → A) (a : A) → refuse n ≡ refusedOr refuse (dateCases (l .year) (l .month) (l .day)) a
-        by refuse a = sym (refused-alike NoDay refuse (dateCases (l .year) (l .month) (l .day)) _ a n (λ k p. cc) (λ p. no-case (cc)) f)
+        by refuse a = sym (refused-alike NoDay refuse (dateCases (l .year) (l .month) (l .day)) _ a n (λ k p. cc) (λ p. impossible (cc)) f)
 
     pub on-date : (d : ℤ) → dayOf (l .year) (l .month) (l .day) ≡ Day d
-        → (refusedOr Refused (dayRunCases d (l .count) (l .step) (length old)) (Run (recordLength * l .count)) ≡ outcomeOf s (length old))
+        → (refusedOr NoRun (dayRunCases d (l .count) (l .step) (length old)) (Run (recordLength * l .count)) ≡ outcomeOf s (length old))
         × (runWritten d 0 (l .count) (l .step * second) old ≡ filledOf s old)
     unfolding outcomeOf filledOf dayOf runWritten
     on-date d f =
         let cs = dateCases (l .year) (l .month) (l .day) in
-        let r = answered-none NoDay cs (Day (lineDay l)) (Day d) (λ n p. no-case (cc)) f in
+        let r = answered-none NoDay cs (Day (lineDay l)) (Day d) (λ n p. impossible (cc)) f in
         let g : Day (lineDay l) ≡ Day d = r .1 in
         let h : d ≡ lineDay l = cc in
-        rw (e, h) (sym (none-answered Refused cs _ (r .0)), sym (none-answered (λ _. old) cs _ (r .0)))
+        rw (e, h) (sym (none-answered NoRun cs _ (r .0)), sym (none-answered (λ _. old) cs _ (r .0)))
 
 -- What is so when the answer is a run of k bytes.
 pub record IsRun (s : List ℕ) (n k : ℕ) : Type 0 where
@@ -60,9 +60,9 @@ unfolding outcomeOf dayOf runRefusal
 is-run s n k e = by (lineOf s) refl e
   where
     by : (a : LineAnswer) → lineOf s ≡ a → forLine a n ≡ Run k → IsRun s n k
-    by BadLine p e = no-case (cc)
+    by BadLine p e = impossible (cc)
     by (Parsed l) p e =
-        let r = answered-none Refused (lineCases l n) (Run (recordLength * l .count)) (Run k) (λ n p. no-case (cc)) e in
+        let r = answered-none NoRun (lineCases l n) (Run (recordLength * l .count)) (Run k) (λ n p. impossible (cc)) e in
         let g : Run (recordLength * l .count) ≡ Run k = r .1 in
         let f : recordLength * l .count ≡ k = cc in
         record {

@@ -8,10 +8,10 @@ use lib.Seq.{take-at}
 use lib.Signed.{ltZ}
 use borrow.Author.Tests.{le-ltb}
 use Rattle.calendar.specs.declared.DayAnswer.the-variants.{Day, NoDay}
-use Rattle.calendar.specs.Limits.{lastDay}
-use Rattle.calendar.specs.Refusals.{Case, case, refusedOr}
+use Rattle.instants.specs.Limits.{lastDay}
+use Rattle.instants.specs.Refusals.{Case, case, refusedOr}
 use Rattle.calendar.specs.Dates.{date, dateCases, dayOf}
-use Rattle.calendar.proofs.FirstRefusal.{in-both, none-answered}
+use Rattle.instants.proofs.FirstRefusal.{in-both, none-answered}
 use Rattle.calendar.proofs.Inverse.{there-and-back, date-range}
 use Rattle.line.specs.declared.Line.{Line}
 use Rattle.line.specs.declared.LineAnswer.{LineAnswer}
@@ -20,11 +20,12 @@ use Rattle.line.specs.Lines.{newline, lineOf}
 use Rattle.line.proofs.Grammar.{first-bytes, no-newline}
 use Rattle.line.proofs.Newline.{after-newline}
 use Rattle.record.specs.Format.{recordLength}
-use Rattle.run.specs.Run.{mostRecords, laterDay, badCount, badStep, runBytes}
+use Rattle.run.specs.Run.{mostRecords, badCount, badStep, runBytes}
+use Rattle.instants.specs.Instants.{laterDay}
 use Rattle.run.proofs.Refusals.{not-refused, between}
 use Rattle.run.proofs.Records.{run-length, run-written}
 use Rattle.run_line.specs.declared.Outcome.{Outcome}
-use Rattle.run_line.specs.declared.Outcome.the-variants.{Run, Refused, Bad}
+use Rattle.run_line.specs.declared.Outcome.the-variants.{Run, NoRun, Bad}
 use Rattle.run_line.specs.Answer.{second, lineDay, forLine, outcomeOf, filledForLine, filledOf}
 use Rattle.run_line.proofs.Answers.{IsRun, is-run, on-date}
 
@@ -41,15 +42,15 @@ shortCases l =
 
 -- PROMISE. A line of five numbers is answered by the first of these refusals that applies: 1, 2 and 3 for the date, 17 for the count, 18 for the
 -- step, and 8 for a last instant past the last day; or else by the run.
-pub line-answer : (s : List ℕ) (l : Line) (n : ℕ) → recordLength * mostRecords ≤ n → lineOf s ≡ Parsed l → outcomeOf s n ≡ refusedOr Refused (shortCases l) (Run (recordLength * l .count))
+pub line-answer : (s : List ℕ) (l : Line) (n : ℕ) → recordLength * mostRecords ≤ n → lineOf s ≡ Parsed l → outcomeOf s n ≡ refusedOr NoRun (shortCases l) (Run (recordLength * l .count))
 unfolding outcomeOf dayOf
 line-answer s l n room e =
     rw e
-    (in-both (λ (x y : Outcome). x ≡ y) Refused Refused (dateCases (l .year) (l .month) (l .day)) _ _ (λ k. refl)
+    (in-both (λ (x y : Outcome). x ≡ y) NoRun NoRun (dateCases (l .year) (l .month) (l .day)) _ _ (λ k. refl)
     (λ h.
     let z = lineDay l in
     let o = date-range z (date (l .year) (l .month) (l .day)) (there-and-back (l .year) (l .month) (l .day) z (none-answered NoDay (dateCases (l .year) (l .month) (l .day)) (Day z) h)) .0 in
-    in-both (λ (x y : Outcome). x ≡ y) Refused Refused (case 17 (badCount (l .count)) ∷ []) _ _ (λ k. refl)
+    in-both (λ (x y : Outcome). x ≡ y) NoRun NoRun (case 17 (badCount (l .count)) ∷ []) _ _ (λ k. refl)
     (λ p. let b = between (l .count) 1 mostRecords (p .0) in rw (o, le-ltb n (recordLength * l .count) (omega arith)) refl)))
 
 -- ---- the run

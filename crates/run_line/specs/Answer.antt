@@ -3,8 +3,9 @@ use Prim.Native.Nat.{ℕ, _*_}
 use mathlib.Core.List.{List, _++_}
 use lib.IntN.{ℤ}
 use lib.ListN.{length, drop}
-use Rattle.calendar.specs.Refusals.{Case, refusedOr}
-use Rattle.calendar.specs.Dates.{date, indexOf, numberOf, dateCases}
+use Rattle.instants.specs.Refusals.{Case, refusedOr}
+use Rattle.calendar.specs.Dates.{date, dateIndex, dateCases}
+use Rattle.instants.specs.Instants.{dayAtIndex}
 use Rattle.line.specs.declared.Line.{Line}
 use Rattle.line.specs.declared.LineAnswer.{LineAnswer}
 use Rattle.line.specs.declared.LineAnswer.the-variants.{Parsed, BadLine}
@@ -12,7 +13,7 @@ use Rattle.line.specs.Lines.{lineOf}
 use Rattle.record.specs.Format.{recordLength}
 use Rattle.run.specs.Run.{runCases, runBytes}
 use Rattle.run_line.specs.declared.Outcome.{Outcome}
-use Rattle.run_line.specs.declared.Outcome.the-variants.{Run, Refused, Bad}
+use Rattle.run_line.specs.declared.Outcome.the-variants.{Run, NoRun, Bad}
 
 -- the microseconds of a second
 abbrev pub second : ℕ
@@ -20,7 +21,7 @@ second = 1_000_000
 
 -- the day number of a line's date
 abbrev pub lineDay : Line → ℤ
-lineDay l = numberOf (indexOf (date (l .year) (l .month) (l .day)))
+lineDay l = dayAtIndex (dateIndex (date (l .year) (l .month) (l .day)))
 
 -- the refusals of a run from 0 h of a day, with a step in seconds and a buffer of n bytes
 abbrev pub dayRunCases : ℤ → (count step n : ℕ) → List Case
@@ -32,7 +33,7 @@ lineCases l n = dateCases (l .year) (l .month) (l .day) ++ dayRunCases (lineDay 
 
 abbrev pub forLine : LineAnswer → ℕ → Outcome
 forLine BadLine n = Bad
-forLine (Parsed l) n = refusedOr Refused (lineCases l n) (Run (recordLength * l .count))
+forLine (Parsed l) n = refusedOr NoRun (lineCases l n) (Run (recordLength * l .count))
 
 -- the answer to the bytes s, with a buffer of n bytes for the run
 unfoldable pub outcomeOf : List ℕ → ℕ → Outcome

@@ -4,7 +4,7 @@ use line::LineAnswer;
 ghost use mathlib.Core.Path.{_≡_};
 ghost use Prim.Native.Nat.{_^_, _*_, _<_};
 ghost use lib.ListN.{length};
-ghost use Rattle.calendar.specs.Refusals.{refusedOr};
+ghost use Rattle.instants.specs.Refusals.{refusedOr};
 ghost use Rattle.record.specs.Format.{recordLength};
 ghost use Rattle.run.specs.Run.{runWritten};
 ghost use Rattle.run_line.specs.declared.Outcome.the-variants as outcome;
@@ -19,19 +19,19 @@ const LENGTH: usize = 30;
 pub enum Outcome {
     // A run, so many bytes at the front of the buffer.
     Run(usize),
-    Refused(u32),
+    NoRun(u32),
     Bad,
 }
 
 // The run of a day from 0 h on, with a step in seconds.
 fn day_run(day: i64, count: u64, step: u64, buffer: &mut [u8]) -> Outcome
     requires { ⌜ step < 10 ^ 10 ⌝ }
-    ensures { λ r. ⌜ r ≡ refusedOr outcome.Refused (dayRunCases day count step (length (now (buffer .entry)))) (outcome.Run (recordLength * count)) ⌝ }
+    ensures { λ r. ⌜ r ≡ refusedOr outcome.NoRun (dayRunCases day count step (length (now (buffer .entry)))) (outcome.Run (recordLength * count)) ⌝ }
     ensures { λ _. ⌜ now (buffer .exit) ≡ runWritten day 0 count (step * second) (now (buffer .entry)) ⌝ }
 {
     let n = run::write(day, 0, count, step * SECOND, buffer);
     if n != 0 {
-        return Outcome::Refused(n);
+        return Outcome::NoRun(n);
     }
     Outcome::Run(LENGTH * (count as usize))
 }
@@ -44,7 +44,7 @@ pub fn answer(s: &[u8], buffer: &mut [u8]) -> Outcome
     match line::parse(s) {
         LineAnswer::BadLine => Outcome::Bad,
         LineAnswer::Parsed(l) => match calendar::day_of(l.year, l.month, l.day) {
-            DayAnswer::NoDay(n) => Outcome::Refused(n),
+            DayAnswer::NoDay(n) => Outcome::NoRun(n),
             DayAnswer::Day(d) => day_run(d, l.count, l.step, buffer),
         },
     }

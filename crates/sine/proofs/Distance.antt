@@ -15,7 +15,7 @@ use Rattle.algebra.proofs.Near.{near-ℕ, near-as, near-wide, near-trans, near-
 use Rattle.algebra.proofs.Floor.{near-floor, near-rounded}
 use Rattle.algebra.proofs.Turns.{Turns, turns-of, turns-wide, turns-add, turns-removed}
 use Rattle.sine.specs.Exact.{S, sineDen, wholeTurn, exactSine, exactCosine}
-use Rattle.sine.specs.Ours.{nested, sineQuarter, quarterTurn, ourSine, ourCosine}
+use Rattle.sine.specs.Ours.{alternating, sineQuarter, quarterTurn, ourSine, ourCosine}
 use Rattle.sine.proofs.Series.{signedS, S-odd, S-fine, S-moves, sineDen-fine, slope}
 use Rattle.sine.proofs.Fold.{Fold, fold-is, fold-scale, fold-small, fold-near, odd-turn}
 use Rattle.sine.proofs.Quarter.{routineDistance, quarter-near}
@@ -85,7 +85,7 @@ sineFold (pos r) = pos (sineQuarter (r / 2 ^ 9))
 sineFold (negsuc n) = negℤ (pos (sineQuarter (suc n / 2 ^ 9)))
 
 sineFold-odd : (n : ℕ) → sineFold (negℤ (pos n)) ≡ negℤ (sineFold (pos n))
-unfolding sineFold sineQuarter nested
+unfolding sineFold sineQuarter alternating
 sineFold-odd zero = refl
 sineFold-odd (suc n) = refl
 

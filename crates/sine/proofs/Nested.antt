@@ -1,4 +1,4 @@
--- Our nested sum against the exact one. The exact one is c₀ - x*(c₁ - x*(c₂ - ..)), whose constants are a / (100 * m) for each a of a list,
+-- Our alternating sum against the exact one. The exact one is c₀ - x*(c₁ - x*(c₂ - ..)), whose constants are a / (100 * m) for each a of a list,
 -- and whose x is w / W. Ours has x = z / F and its constants in units of 1 / F, and rounds each product down: z * p / F.
 -- Errors are in hundredths of a unit of 1 / F.
 -- Assumes nothing.
@@ -17,7 +17,7 @@ use Rattle.algebra.proofs.Ring.{end, _▸_, ring, quote}
 use Rattle.algebra.proofs.Order.{pos-sub, abs-mul, abs-neg}
 use Rattle.algebra.proofs.Near.{near, near-ℕ, near-as, near-wide, near-trans, near-scale, near-unscale, near-sub, near-refl, abs-sum}
 use Rattle.algebra.proofs.Floor.{near-floor}
-use Rattle.sine.specs.Ours.{nested}
+use Rattle.sine.specs.Ours.{alternating}
 
 -- ---- the exact sum, over the denominator 100 * m * power W bs
 
@@ -114,8 +114,8 @@ module _ (F W w z m : ℕ) (hF : 0 < F) (hm : 0 < m) (hw : w ≤ W) (hz : z ≤ 
   ceiling n = omega (arith, N.lt-div-mul-add {a = n} hm)
 
   pub record Good (c : ℕ) (ds : List ℕ) (a : ℕ) (bs : List ℕ) : Type 0 where
-    pub small : nested F z c ds ≤ c
-    pub close : Near (pos (nested F z c ds) *ℤ pos (100 * (m * power W bs))) (exactNested W w a bs *ℤ pos F) (error F m ds a bs * (m * power W bs))
+    pub small : alternating F z c ds ≤ c
+    pub close : Near (pos (alternating F z c ds) *ℤ pos (100 * (m * power W bs))) (exactNested W w a bs *ℤ pos F) (error F m ds a bs * (m * power W bs))
 
   last : (c a : ℕ) (bs : List ℕ) → T (nearest F m c a)
       → Near (pos c *ℤ pos (100 * (m * power W bs))) (exactNested W w a bs *ℤ pos F) ((50 + suc (total bs * F / m)) * (m * power W bs))
@@ -127,15 +127,15 @@ module _ (F W w z m : ℕ) (hF : 0 < F) (hm : 0 < m) (hw : w ≤ W) (hz : z ≤ 
       alg : (a p f : ℤ) → p *ℤ (a *ℤ f) ≡ f *ℤ (a *ℤ p)
       alg a p f = ring (a ▸ p ▸ f ▸ end) (search quote depth 13) tt
 
-  pub nested-near : (c : ℕ) (ds : List ℕ) (a : ℕ) (bs : List ℕ) → T (constantsTest F m c ds a bs) → Good c ds a bs
-  unfolding nested
-  nested-near c [] a bs t = record { small = N.le-refl c; close = last c a bs t }
-  nested-near c (d ∷ ds) a [] t = absurd t
-  nested-near c (d ∷ ds) a (b ∷ bs) t =
+  pub alternating-near : (c : ℕ) (ds : List ℕ) (a : ℕ) (bs : List ℕ) → T (constantsTest F m c ds a bs) → Good c ds a bs
+  unfolding alternating
+  alternating-near c [] a bs t = record { small = N.le-refl c; close = last c a bs t }
+  alternating-near c (d ∷ ds) a [] t = absurd t
+  alternating-near c (d ∷ ds) a (b ∷ bs) t =
       let u = and-split (nearest F m c a) (leb d c && constantsTest F m d ds b bs) t in
       let v = and-split (leb d c) (constantsTest F m d ds b bs) (u .1) in
-      let g = nested-near d ds b bs (v .1) in
-      let p = nested F z d ds in
+      let g = alternating-near d ds b bs (v .1) in
+      let p = alternating F z d ds in
       let q = z * p / F in
       let less : q ≤ c = le-trans (N.div-le-of-le-mul F (mul-le-mul hz (le-trans (g .small) (leb→le d c (v .0))))) (N.le-refl c) in
       record {

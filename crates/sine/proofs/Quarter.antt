@@ -17,8 +17,8 @@ use Rattle.algebra.proofs.Near.{near-as, near-trans, near-scale}
 use Rattle.algebra.proofs.Floor.{near-floor}
 use Rattle.algebra.proofs.Series.{seriesE}
 use Rattle.sine.specs.Exact.{turnNum, S, sineDen}
-use Rattle.sine.specs.Ours.{firstConstant, otherConstants, nested, sineQuarter}
-use Rattle.sine.proofs.Nested.{exactNested, power, error, constantsTest, nested-near}
+use Rattle.sine.specs.Ours.{firstConstant, otherConstants, alternating, sineQuarter}
+use Rattle.sine.proofs.Nested.{exactNested, power, error, constantsTest, alternating-near}
 
 -- (t / v)^(2k+1) / (2k+1)! times v^23 * 23!, a whole number: with t / v = pi/2 the constants, exactly
 abbrev pub part : ℕ → ℕ → ℕ → ℕ
@@ -34,9 +34,9 @@ upToEleven = 1 ∷ 2 ∷ 3 ∷ 4 ∷ 5 ∷ 6 ∷ 7 ∷ 8 ∷ 9 ∷ 10 ∷ 11 ∷
 abbrev pub parts : ℕ → ℕ → List ℕ
 parts t v = each (part t v) upToEleven
 
--- ---- the nested sum of these is the series
+-- ---- the alternating sum of these is the series
 
--- the nested sum by the integers, and as an expression
+-- the alternating sum by the integers, and as an expression
 abbrev powerᶻ : ℤ → List ℕ → ℤ
 powerᶻ W [] = pos 1
 powerᶻ W (k ∷ ks) = W *ℤ powerᶻ W ks
@@ -91,7 +91,7 @@ den-is r t u = ringN (r ▹ t ▹ u ▹ end) (search quoteN depth 60 fits 9000) 
 
 -- ---- our sine of q of r parts of a quarter, in units of 1 / F, at any numbers
 
--- the last product, q / r times the nested sum, rounded down
+-- the last product, q / r times the alternating sum, rounded down
 last-product : (F r K e q p : ℕ) (n : ℤ) → 0 < r → q ≤ r → Near (pos p *ℤ pos (100 * K)) (n *ℤ pos F) (e * K)
     → Near (pos (q * p / r) *ℤ pos (r * (100 * K))) (pos q *ℤ n *ℤ pos F) ((100 + e) * (r * K))
 last-product F r K e q p n hr hq h =
@@ -108,10 +108,10 @@ last-product F r K e q p n hr hq h =
 series-near : (F r s t u c : ℕ) (ds : List ℕ) → 0 < F → 0 < r → 0 < s → 0 < hundredth u → r * r ≡ F * s
     → T (constantsTest F (hundredth u) c ds (part t (100 * u) 0) (parts t (100 * u))) → (q : ℕ) → q ≤ r
     → (e : ℕ) → 100 + error F (hundredth u) ds (part t (100 * u) 0) (parts t (100 * u)) ≤ e * 100
-    → Near (pos (q * nested F (q * q / s) c ds / r) *ℤ pos ((r * (100 * u)) ^ 23 * factorial 23)) (series (pos (q * t)) (pos (r * (100 * u))) *ℤ pos F) (e * ((r * (100 * u)) ^ 23 * factorial 23))
+    → Near (pos (q * alternating F (q * q / s) c ds / r) *ℤ pos ((r * (100 * u)) ^ 23 * factorial 23)) (series (pos (q * t)) (pos (r * (100 * u))) *ℤ pos F) (e * ((r * (100 * u)) ^ 23 * factorial 23))
 series-near F r s t u c ds hF hr hs hm rs test q hq e he =
-    near-as (last-product F r (hundredth u * W) (error F (hundredth u) ds (part t (100 * u) 0) (parts t (100 * u))) q (nested F z c ds) (exactNested (r * r) (q * q) (part t (100 * u) 0) (parts t (100 * u))) hr hq near-nested)
-    (ap (λ (k : ℕ). pos (q * nested F z c ds / r) *ℤ pos k) (den-is r t u)) (ap (λ (x : ℤ). x *ℤ pos F) (series-is q r t (100 * u)))
+    near-as (last-product F r (hundredth u * W) (error F (hundredth u) ds (part t (100 * u) 0) (parts t (100 * u))) q (alternating F z c ds) (exactNested (r * r) (q * q) (part t (100 * u) 0) (parts t (100 * u))) hr hq near-nested)
+    (ap (λ (k : ℕ). pos (q * alternating F z c ds / r) *ℤ pos k) (den-is r t u)) (ap (λ (x : ℤ). x *ℤ pos F) (series-is q r t (100 * u)))
     (le-trans (N.mul-le-mul-right (r * (hundredth u * W)) he) (le-of-eq (alg e r (hundredth u * W) ∙ ap (λ (k : ℕ). e * k) (sym (den-is r t u)))))
   where
     z : ℕ
@@ -139,9 +139,9 @@ series-near F r s t u c ds hF hr hs hm rs test q hq e he =
     W : ℕ
     W = power (r * r) (parts t (100 * u))
 
-    near-nested : Near (pos (nested F z c ds) *ℤ pos (100 * (hundredth u * W))) (exactNested (r * r) (q * q) (part t (100 * u) 0) (parts t (100 * u)) *ℤ pos F)
+    near-nested : Near (pos (alternating F z c ds) *ℤ pos (100 * (hundredth u * W))) (exactNested (r * r) (q * q) (part t (100 * u) 0) (parts t (100 * u)) *ℤ pos F)
         (error F (hundredth u) ds (part t (100 * u) 0) (parts t (100 * u)) * (hundredth u * W))
-    near-nested = nested-near F (r * r) (q * q) z (hundredth u) hF hm squares z-small z-near c ds (part t (100 * u) 0) (parts t (100 * u)) test .close
+    near-nested = alternating-near F (r * r) (q * q) z (hundredth u) hF hm squares z-small z-near c ds (part t (100 * u) 0) (parts t (100 * u)) test .close
 
 -- ---- at ours
 

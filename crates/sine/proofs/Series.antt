@@ -22,9 +22,9 @@ unfoldable pub signedS : ℕ → ℤ → ℤ
 signedS Q z = series (z *ℤ pos turnNum) (pos (Q * turnDen))
 
 -- the denominator is above 0
-pub sineDen-some : (Q : ℕ) → 0 < Q → 0 < sineDen Q
+pub sineDen-positive : (Q : ℕ) → 0 < Q → 0 < sineDen Q
 unfolding sineDen
-sineDen-some Q h = N.mul-pos (N.one-le-pow 23 (Q * turnDen) (N.mul-pos h (lit≤ tt))) (lit≤ tt)
+sineDen-positive Q h = N.mul-pos (N.one-le-pow 23 (Q * turnDen) (N.mul-pos h (lit≤ tt))) (lit≤ tt)
 
 -- ---- odd
 

@@ -9,12 +9,12 @@ use lib.IntN.{natAbs}
 use Rattle.algebra.proofs.Tests.{by-test, cond-case}
 use Rattle.algebra.proofs.Order.{abs-neg}
 use Rattle.sine.specs.Exact.{halfTurn, wholeTurn}
-use Rattle.sine.specs.Ours.{firstConstant, otherConstants, nested, sineQuarter, quarterTurn, ourSine, ourCosine}
+use Rattle.sine.specs.Ours.{firstConstant, otherConstants, alternating, sineQuarter, quarterTurn, ourSine, ourCosine}
 
-nested-small : (F z c : ℕ) (ds : List ℕ) → nested F z c ds ≤ c
-unfolding nested
-nested-small F z c [] = N.le-refl c
-nested-small F z c (d ∷ ds) = N.sub-le c (z * nested F z d ds / F)
+alternating-small : (F z c : ℕ) (ds : List ℕ) → alternating F z c ds ≤ c
+unfolding alternating
+alternating-small F z c [] = N.le-refl c
+alternating-small F z c (d ∷ ds) = N.sub-le c (z * alternating F z d ds / F)
 
 -- the most that our sine and cosine are, in units of 2^-31: up to nine tenths of a quarter the first constant shows it, and from there on the second
 abbrev pub sineMost : ℕ
@@ -27,20 +27,20 @@ first-high : (z p : ℕ) → 1739461750 ≤ z → 1216058725 ≤ p → firstCons
 first-high z p h k = omega (arith, N.mul-le-mul h k)
 
 sineQuarter-most : (q : ℕ) → q ≤ 2 ^ 30 → sineQuarter q ≤ sineMost
-unfolding sineQuarter nested
+unfolding sineQuarter alternating
 sineQuarter-most q h = by-test (leb q 966367641) (λ s. low (leb→le q 966367641 s)) (λ s. high (nleb→lt q 966367641 s))
   where
     z : ℕ
     z = q * q / 2 ^ 29
 
-    low : q ≤ 966367641 → q * nested (2 ^ 31) z firstConstant otherConstants / 2 ^ 30 ≤ sineMost
-    low k = bound (N.mul-le-mul k (nested-small (2 ^ 31) z firstConstant otherConstants))
+    low : q ≤ 966367641 → q * alternating (2 ^ 31) z firstConstant otherConstants / 2 ^ 30 ≤ sineMost
+    low k = bound (N.mul-le-mul k (alternating-small (2 ^ 31) z firstConstant otherConstants))
       where
         bound : {n : ℕ} → n ≤ 966367641 * firstConstant → n / 2 ^ 30 ≤ sineMost
         bound k = omega arith
 
-    high : 966367641 < q → q * nested (2 ^ 31) z firstConstant otherConstants / 2 ^ 30 ≤ sineMost
-    high k = bound (N.mul-le-mul h (first-high z _ (large (N.mul-le-mul k k)) (second-low z _ (small (N.mul-le-mul h h)) (nested-small (2 ^ 31) z 171138612 (10053990 ∷ 344545 ∷ 7728 ∷ 122 ∷ 1 ∷ [])))))
+    high : 966367641 < q → q * alternating (2 ^ 31) z firstConstant otherConstants / 2 ^ 30 ≤ sineMost
+    high k = bound (N.mul-le-mul h (first-high z _ (large (N.mul-le-mul k k)) (second-low z _ (small (N.mul-le-mul h h)) (alternating-small (2 ^ 31) z 171138612 (10053990 ∷ 344545 ∷ 7728 ∷ 122 ∷ 1 ∷ [])))))
       where
         bound : {n : ℕ} → n ≤ 2 ^ 30 * 2400000000 → n / 2 ^ 30 ≤ sineMost
         bound k = omega arith

@@ -9,7 +9,7 @@ use lib.Signed.{quotZ}
 use Rattle.algebra.specs.Integers.{+_, −_}
 use Rattle.algebra.proofs.Polynomial.{eqℤ}
 use Rattle.sine.specs.Exact.{S, sineDen, wholeTurn, exactSine, exactCosine}
-use Rattle.sine.specs.Ours.{nested, sineQuarter, quarterTurn, ourSine, ourCosine}
+use Rattle.sine.specs.Ours.{alternating, sineQuarter, quarterTurn, ourSine, ourCosine}
 
 record Row : Type 0 where
   angle : ℕ
@@ -34,7 +34,7 @@ our-values : T (ours (
     ∷ row 1649267441664 (− 2147483649) (+ 0)
     ∷ row 2199023201231 (− 333) (+ 2147483648)
     ∷ []))
-unfolding ours ourSine ourCosine wholeTurn quarterTurn sineQuarter nested
+unfolding ours ourSine ourCosine wholeTurn quarterTurn sineQuarter alternating
 our-values = tt
 
 -- A of Q, and its sine and cosine in units of 10^-30, towards zero

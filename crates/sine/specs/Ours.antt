@@ -13,13 +13,13 @@ abbrev pub otherConstants : List ℕ
 otherConstants = 1387197337 ∷ 171138612 ∷ 10053990 ∷ 344545 ∷ 7728 ∷ 122 ∷ 1 ∷ []
 
 -- c - z*(d - z*(..)) in units of 1 / F, each product rounded down
-unfoldable pub nested : ℕ → ℕ → ℕ → List ℕ → ℕ
-nested F z c [] = c
-nested F z c (d ∷ ds) = c - z * nested F z d ds / F
+unfoldable pub alternating : ℕ → ℕ → ℕ → List ℕ → ℕ
+alternating F z c [] = c
+alternating F z c (d ∷ ds) = c - z * alternating F z d ds / F
 
 -- the sine of q of 2^30 parts of a quarter turn; q*q / 2^29 is the square of q / 2^30 in units of 2^-31
 unfoldable pub sineQuarter : ℕ → ℕ
-sineQuarter q = q * nested (2 ^ 31) (q * q / 2 ^ 29) firstConstant otherConstants / 2 ^ 30
+sineQuarter q = q * alternating (2 ^ 31) (q * q / 2 ^ 29) firstConstant otherConstants / 2 ^ 30
 
 -- the sine of r of 2^41 parts of a turn, up to a quarter, cut to 2^30 parts of a quarter
 unfoldable pub quarterTurn : ℕ → ℤ

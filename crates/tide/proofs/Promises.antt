@@ -5,13 +5,13 @@ use Prim.Native.Nat.{ℕ}
 use lib.Dec.{T}
 use lib.IntN.{ℤ, pos}
 use lib.Ieee.{rem, lt, eq, ofInt}
-use Rattle.calendar.specs.Instants.{IsAccepted}
-use Rattle.calendar.proofs.Cases.{no-case}
-use Rattle.calendar.proofs.FirstRefusal.{NoneApplies, in-each}
-use Rattle.calendar.proofs.Index.{accepted-at, accepted-none}
+use Rattle.instants.specs.Instants.{IsAccepted}
+use Rattle.instants.proofs.Impossible.{impossible}
+use Rattle.instants.proofs.FirstRefusal.{NoneApplies, in-each}
+use Rattle.instants.proofs.Accepted.{accepted-at, accepted-none}
 use Rattle.tide.specs.declared.Doodson.{Doodson}
-use Rattle.tide.specs.declared.Answer.{Answer}
-use Rattle.tide.specs.declared.Answer.the-variants.{Given, Refused}
+use Rattle.tide.specs.declared.TideAnswer.{TideAnswer}
+use Rattle.tide.specs.declared.TideAnswer.the-variants.{Tide, NoTide}
 use Rattle.tide.specs.Binary64.{zero64}
 use Rattle.tide.specs.Tidal.{argumentsAt, sumOfProducts, turn, raised, settled, reduced, constituentOf, allInRange, tideCases, tideOf, frequencyOf, phaseOf, doodson}
 use Rattle.tide.specs.Claims.{Finite, InTurn}
@@ -26,7 +26,7 @@ pub phase-in-turn : (d : ℤ) (m : ℕ) (k : Doodson) → InTurn (phaseOf (tideO
 unfolding tideOf constituentOf
 phase-in-turn d m k =
     let a = argumentsAt d m in
-    in-each Refused (λ (x : Answer). InTurn (phaseOf x)) (tideCases d m k) _ (λ n. zero-in)
+    in-each NoTide (λ (x : TideAnswer). InTurn (phaseOf x)) (tideCases d m k) _ (λ n. zero-in)
     (λ h. reduced-in-turn (sumOfProducts k (a .d1) (a .d2) (a .d3) (a .d4) (a .d5) (a .d6)))
 
 -- ---- the frequency
@@ -34,11 +34,11 @@ phase-in-turn d m k =
 -- PROMISE. For every input the frequency is finite.
 pub frequency-finite : (d : ℤ) (m : ℕ) (k : Doodson) → Finite (frequencyOf (tideOf d m k))
 unfolding tideOf constituentOf
-frequency-finite d m k = in-each Refused (λ (x : Answer). Finite (frequencyOf x)) (tideCases d m k) _ (λ n. tt) given
+frequency-finite d m k = in-each NoTide (λ (x : TideAnswer). Finite (frequencyOf x)) (tideCases d m k) _ (λ n. tt) given
   where
     right : (b : Bool) → not b ≡ false → T b
     right true e = tt
-    right false e = no-case (cc)
+    right false e = impossible (cc)
 
     given : NoneApplies (tideCases d m k) → Finite (constituentOf (argumentsAt d m) k .frequency)
     given h =
@@ -52,7 +52,7 @@ zero-reduced = refl
 
 -- PROMISE. At every accepted instant six zero multipliers give +0 and +0.
 pub zeros-give-zero : (d : ℤ) (m : ℕ) → IsAccepted d m
-    → tideOf d m (doodson (pos 0) (pos 0) (pos 0) (pos 0) (pos 0) (pos 0)) ≡ Given (record { frequency = zero64; phase = zero64 })
+    → tideOf d m (doodson (pos 0) (pos 0) (pos 0) (pos 0) (pos 0) (pos 0)) ≡ Tide (record { frequency = zero64; phase = zero64 })
 unfolding tideOf allInRange constituentOf
 zeros-give-zero d m h =
     let b = bounds-at d m h in

@@ -11,9 +11,10 @@ use lib.Ieee.Fits.{and-l, and-r}
 use mir.Syntax.{w64}
 use mir.Val.{toZ, ofZ, SFits}
 use mir.Facts.{toZ-ofZ}
-use Rattle.calendar.specs.Instants.{IsAccepted, indexAt}
-use Rattle.calendar.proofs.Index.{accepted-at}
+use Rattle.instants.specs.Instants.{IsAccepted, dayIndex}
+use Rattle.instants.proofs.Accepted.{accepted-at}
 use Rattle.tide.specs.declared.Doodson.{Doodson}
+use Rattle.instants.specs.Limits.{indexOffset}
 use Rattle.tide.specs.Tidal.{inRange, allInRange, tideOf, doodson}
 
 -- ---- binary64 holds a whole number up to 2 ^ 53 in size
@@ -27,17 +28,17 @@ range-size (pos n) h = leb→le n 12 h
 range-size (negsuc n) h = let k : n ≤ 11 = leb→le n 11 (and-l (leb n 11) true h) in omega arith
 
 -- the day of an index up to the end of 2400
-index-size : (i : ℕ) → i < 292560 → natAbs (pos i -ℤ pos 94553) ≤ 198006
-index-size i h = by (ltb i 94553)
+index-size : (i : ℕ) → i < 292560 → natAbs (pos i -ℤ pos indexOffset) ≤ 198006
+index-size i h = by (ltb i indexOffset)
   where
-    by : (b : Bool) → natAbs (cond b (negsuc (94553 - suc i)) (pos (i - 94553))) ≤ 198006
+    by : (b : Bool) → natAbs (cond b (negsuc (indexOffset - suc i)) (pos (i - indexOffset))) ≤ 198006
     by true = omega arith
     by false = omega arith
 
 pub accepted-size : (d : ℤ) (m : ℕ) → IsAccepted d m → natAbs d ≤ 198006
 accepted-size d m h =
-    let a = accepted-at d m (indexAt d) h in
-    rw (a .is) (index-size (indexAt d) (omega (arith, a .high)))
+    let a = accepted-at d m (dayIndex d) h in
+    rw (a .is) (index-size (dayIndex d) (omega (arith, a .high)))
 
 -- ---- a signed number that goes through a call is read back from its bits, as it was
 abbrev pub read : ℤ → ℤ

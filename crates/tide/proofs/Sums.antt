@@ -5,13 +5,13 @@ use native.Mathlib.Nat.{le-of-lt}
 use lib.Dec.{T, lit≤, lit<}
 use lib.IntN.{ℤ, pos, natAbs}
 use lib.Ieee.{Float, ofInt}
-use Rattle.calendar.specs.Limits.{dayMicros}
-use Rattle.calendar.specs.Instants.{IsAccepted, indexAt}
-use Rattle.calendar.proofs.Index.{accepted-at}
+use Rattle.instants.specs.Limits.{dayMicros}
+use Rattle.instants.specs.Instants.{IsAccepted, dayIndex}
+use Rattle.instants.proofs.Accepted.{accepted-at}
 use Rattle.tide.specs.declared.Doodson.{Doodson}
 use Rattle.tide.specs.declared.Arguments.{Arguments}
 use Rattle.tide.specs.Binary64.{whole, decimal, zero64}
-use Rattle.tide.specs.Delaunay.{nested, F1, F2, F3, F4, F5, FD1, FD2, FD3, FD4, FD5}
+use Rattle.tide.specs.Delaunay.{horner, F1, F2, F3, F4, F5, FD1, FD2, FD3, FD4, FD5}
 use Rattle.tide.specs.Tidal.{dayFraction, centuries, argumentsOf, argumentsAt, sumOfProducts, inRange, allInRange, doodson}
 use Rattle.tide.proofs.Signed.{accepted-size, range-size, Each, each}
 use Rattle.tide.proofs.Bounded.{Bound, known, number, wide, negated, added, subtracted, multiplied, divided, zero-product}
@@ -26,30 +26,30 @@ unfolding centuries ofInt decimal
 centuries-bound d f h a = divided 36525 0 tt refl (lit< tt) (wide tt (added tt (subtracted tt (subtracted tt (number 198006 d tt h) (number 51544 (pos 51544) tt (lit≤ tt))) (known {B = 1} tt)) a))
 
 -- ---- the Delaunay arguments
-nested-bound : {t c0 c1 c2 c3 c4 : Float} → Bound 7 t → Bound 400 c0 → Bound 500_000 c1 → Bound 1 c2 → Bound 1 c3 → Bound 1 c4 → Bound 3_503_193 (nested t c0 c1 c2 c3 c4)
-unfolding nested
-nested-bound t c0 c1 c2 c3 c4 = added tt c0 (multiplied tt t (added tt c1 (multiplied tt t (added tt c2 (multiplied tt t (added tt c3 (multiplied tt t c4)))))))
+horner-bound : {t c0 c1 c2 c3 c4 : Float} → Bound 7 t → Bound 400 c0 → Bound 500_000 c1 → Bound 1 c2 → Bound 1 c3 → Bound 1 c4 → Bound 3_503_193 (horner t c0 c1 c2 c3 c4)
+unfolding horner
+horner-bound t c0 c1 c2 c3 c4 = added tt c0 (multiplied tt t (added tt c1 (multiplied tt t (added tt c2 (multiplied tt t (added tt c3 (multiplied tt t c4)))))))
 
 module _ {t : Float} (h : Bound 7 t) where
   F1-bound : Bound 3_503_193 (F1 t)
   unfolding F1 decimal
-  F1-bound = nested-bound h (known tt) (known tt) (known tt) (known tt) (known tt)
+  F1-bound = horner-bound h (known tt) (known tt) (known tt) (known tt) (known tt)
 
   F2-bound : Bound 3_503_193 (F2 t)
   unfolding F2 decimal
-  F2-bound = nested-bound h (known tt) (known tt) (known tt) (known tt) (known tt)
+  F2-bound = horner-bound h (known tt) (known tt) (known tt) (known tt) (known tt)
 
   F3-bound : Bound 3_503_193 (F3 t)
   unfolding F3 decimal
-  F3-bound = nested-bound h (known tt) (known tt) (known tt) (known tt) (known tt)
+  F3-bound = horner-bound h (known tt) (known tt) (known tt) (known tt) (known tt)
 
   F4-bound : Bound 3_503_193 (F4 t)
   unfolding F4 decimal
-  F4-bound = nested-bound h (known tt) (known tt) (known tt) (known tt) (known tt)
+  F4-bound = horner-bound h (known tt) (known tt) (known tt) (known tt) (known tt)
 
   F5-bound : Bound 3_503_193 (F5 t)
   unfolding F5 decimal
-  F5-bound = nested-bound h (known tt) (known tt) (known tt) (known tt) (known tt)
+  F5-bound = horner-bound h (known tt) (known tt) (known tt) (known tt) (known tt)
 
   FD1-bound : Bound 8 (FD1 t)
   unfolding FD1 decimal
@@ -114,7 +114,7 @@ bounds-of f t hf ht =
 pub bounds-at : (d : ℤ) (m : ℕ) → IsAccepted d m → Bounds (argumentsAt d m)
 unfolding argumentsAt
 bounds-at d m h =
-    let f = fraction-bound m (accepted-at d m (indexAt d) h .less) in
+    let f = fraction-bound m (accepted-at d m (dayIndex d) h .less) in
     bounds-of (dayFraction m) (centuries d (dayFraction m)) f (centuries-bound d (dayFraction m) (accepted-size d m h) f)
 
 -- ---- the sums

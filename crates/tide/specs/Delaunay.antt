@@ -1,31 +1,31 @@
 -- The Delaunay arguments l, l', F, D, Omega in degrees, F1 to F5, and their frequencies in cycles per day, FD1 to FD5, at t Julian centuries
--- from J2000.0: the constants and the nested order of the IERS routine TDFRPH.
+-- from J2000.0: the constants and the horner order of the IERS routine TDFRPH.
 use lib.Ieee.{Float}
 use Rattle.tide.specs.Binary64.{_⊕_, _⊖_, _⊗_, plus, minus}
 
 -- c0 + t * (c1 + t * (c2 + t * (c3 + t * c4)))
-unfoldable pub nested : (t c0 c1 c2 c3 c4 : Float) → Float
-nested t c0 c1 c2 c3 c4 = c0 ⊕ t ⊗ (c1 ⊕ t ⊗ (c2 ⊕ t ⊗ (c3 ⊕ t ⊗ c4)))
+unfoldable pub horner : (t c0 c1 c2 c3 c4 : Float) → Float
+horner t c0 c1 c2 c3 c4 = c0 ⊕ t ⊗ (c1 ⊕ t ⊗ (c2 ⊕ t ⊗ (c3 ⊕ t ⊗ c4)))
 
 unfoldable pub F1 : Float → Float
-unfolding nested
-F1 t = nested t (plus 134_9634025100) (plus 477198_8675605000) (plus 0_0088553333) (plus 0_0000143431) (minus 0_0000000680)
+unfolding horner
+F1 t = horner t (plus 134_9634025100) (plus 477198_8675605000) (plus 0_0088553333) (plus 0_0000143431) (minus 0_0000000680)
 
 unfoldable pub F2 : Float → Float
-unfolding nested
-F2 t = nested t (plus 357_5291091806) (plus 35999_0502911389) (minus 0_0001536667) (plus 0_0000000378) (minus 0_0000000032)
+unfolding horner
+F2 t = horner t (plus 357_5291091806) (plus 35999_0502911389) (minus 0_0001536667) (plus 0_0000000378) (minus 0_0000000032)
 
 unfoldable pub F3 : Float → Float
-unfolding nested
-F3 t = nested t (plus 93_2720906200) (plus 483202_0174577222) (minus 0_0035420000) (minus 0_0000002881) (plus 0_0000000012)
+unfolding horner
+F3 t = horner t (plus 93_2720906200) (plus 483202_0174577222) (minus 0_0035420000) (minus 0_0000002881) (plus 0_0000000012)
 
 unfoldable pub F4 : Float → Float
-unfolding nested
-F4 t = nested t (plus 297_8501954694) (plus 445267_1114469445) (minus 0_0017696111) (plus 0_0000018314) (minus 0_0000000088)
+unfolding horner
+F4 t = horner t (plus 297_8501954694) (plus 445267_1114469445) (minus 0_0017696111) (plus 0_0000018314) (minus 0_0000000088)
 
 unfoldable pub F5 : Float → Float
-unfolding nested
-F5 t = nested t (plus 125_0445550100) (minus 1934_1362619722) (plus 0_0020756111) (plus 0_0000021394) (minus 0_0000000165)
+unfolding horner
+F5 t = horner t (plus 125_0445550100) (minus 1934_1362619722) (plus 0_0020756111) (plus 0_0000021394) (minus 0_0000000165)
 
 unfoldable pub FD1 : Float → Float
 FD1 t = plus 0_0362916471 ⊕ plus 0_0000000013 ⊗ t

@@ -6,15 +6,15 @@ use lib.IntN.{ℤ, pos, negℤ}
 use lib.Signed.{leZ}
 use lib.Ieee as Ieee
 use lib.Ieee.{Float, binary64, neg}
-use Rattle.calendar.specs.Refusals.{Case, case, refusedOr}
-use Rattle.calendar.specs.Instants.{instantCases}
+use Rattle.instants.specs.Refusals.{Case, case, refusedOr}
+use Rattle.instants.specs.Instants.{instantCases}
 use Rattle.tide.specs.Binary64.{_⊕_, _⊖_, _⊗_, _⊘_, whole, zero64, plus}
 use Rattle.tide.specs.Delaunay.{F1, F2, F3, F4, F5, FD1, FD2, FD3, FD4, FD5}
 use Rattle.tide.specs.declared.Doodson.{Doodson}
 use Rattle.tide.specs.declared.Arguments.{Arguments}
 use Rattle.tide.specs.declared.Constituent.{Constituent}
-use Rattle.tide.specs.declared.Answer.{Answer}
-use Rattle.tide.specs.declared.Answer.the-variants.{Given, Refused}
+use Rattle.tide.specs.declared.TideAnswer.{TideAnswer}
+use Rattle.tide.specs.declared.TideAnswer.the-variants.{Tide, NoTide}
 
 -- f, the fraction of the day after m microseconds: m / 86400000000
 unfoldable pub dayFraction : ℕ → Float
@@ -88,29 +88,29 @@ abbrev pub rangeCases : Doodson → List Case
 rangeCases k = case 11 (not (allInRange k)) ∷ []
 
 -- from arguments at hand: both numbers, or the multipliers' refusal
-unfoldable pub answerOf : Arguments → Doodson → Answer
-answerOf a k = refusedOr Refused (rangeCases k) (Given (constituentOf a k))
+unfoldable pub answerOf : Arguments → Doodson → TideAnswer
+answerOf a k = refusedOr NoTide (rangeCases k) (Tide (constituentOf a k))
 
 -- the refusals of an instant and of six multipliers
 abbrev pub tideCases : (d : ℤ) (m : ℕ) → Doodson → List Case
 tideCases d m k = instantCases d m ++ rangeCases k
 
 -- both numbers, or a refusal
-unfoldable pub tideOf : (d : ℤ) (m : ℕ) → Doodson → Answer
-tideOf d m k = refusedOr Refused (tideCases d m k) (Given (constituentOf (argumentsAt d m) k))
+unfoldable pub tideOf : (d : ℤ) (m : ℕ) → Doodson → TideAnswer
+tideOf d m k = refusedOr NoTide (tideCases d m k) (Tide (constituentOf (argumentsAt d m) k))
 
 -- The numbers that the exported calls give: the frequency and the phase, +0 on a refusal, and the refusal number, 0 for none.
-abbrev pub frequencyOf : Answer → Float
-frequencyOf (Given x) = x .frequency
-frequencyOf (Refused n) = zero64
+abbrev pub frequencyOf : TideAnswer → Float
+frequencyOf (Tide x) = x .frequency
+frequencyOf (NoTide n) = zero64
 
-abbrev pub phaseOf : Answer → Float
-phaseOf (Given x) = x .phase
-phaseOf (Refused n) = zero64
+abbrev pub phaseOf : TideAnswer → Float
+phaseOf (Tide x) = x .phase
+phaseOf (NoTide n) = zero64
 
-abbrev pub refusalOf : Answer → ℕ
-refusalOf (Given x) = 0
-refusalOf (Refused n) = n
+abbrev pub tideRefusalOf : TideAnswer → ℕ
+tideRefusalOf (Tide x) = 0
+tideRefusalOf (NoTide n) = n
 
 -- the six multipliers as the exported calls take them
 abbrev pub doodson : (k1 k2 k3 k4 k5 k6 : ℤ) → Doodson

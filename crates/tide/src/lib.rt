@@ -1,16 +1,16 @@
 // Frequency and phase of a tidal constituent, from its six Doodson multipliers and an instant of
 // Terrestrial Time. This is not IERS Conventions software: it is derived from the routine TDFRPH of
 // that collection, and docs/DIFFERENCES.md says how it differs.
-use calendar::Acceptance;
+use instants::Acceptance;
 ghost use mathlib.Core.Path.{_≡_};
 ghost use Prim.Native.Nat.{_<_};
 ghost use lib.Dec.{T};
 ghost use lib.Ieee.{binary64, inFloat};
-ghost use Rattle.calendar.specs.Limits.{dayMicros};
-ghost use Rattle.calendar.specs.Instants.{IsAccepted};
+ghost use Rattle.instants.specs.Limits.{dayMicros};
+ghost use Rattle.instants.specs.Instants.{IsAccepted};
 ghost use Rattle.tide.specs.Binary64.{_⊗_, whole};
-ghost use Rattle.tide.specs.Delaunay.{nested};
-ghost use Rattle.tide.specs.Tidal.{dayFraction, centuries, argumentsOf, argumentsAt, sumOfProducts, settled, reduced, inRange, allInRange, answerOf, tideOf, frequencyOf, phaseOf, refusalOf};
+ghost use Rattle.tide.specs.Delaunay.{horner};
+ghost use Rattle.tide.specs.Tidal.{dayFraction, centuries, argumentsOf, argumentsAt, sumOfProducts, settled, reduced, inRange, allInRange, answerOf, tideOf, frequencyOf, phaseOf, tideRefusalOf};
 
 // The six multipliers of a constituent.
 pub struct Doodson {
@@ -45,9 +45,9 @@ pub struct Constituent {
 }
 
 // Frequency and phase, or the number of a refusal.
-pub enum Answer {
-    Given(Constituent),
-    Refused(u32),
+pub enum TideAnswer {
+    Tide(Constituent),
+    NoTide(u32),
 }
 
 fn day_fraction(micros: u64) -> f64
@@ -65,7 +65,7 @@ fn julian_centuries(day: i64, f: f64) -> f64
 }
 
 fn quartic(t: f64, c0: f64, c1: f64, c2: f64, c3: f64, c4: f64) -> f64
-    ensures { λ r. ⌜ r ≡ nested t c0 c1 c2 c3 c4 ⌝ }
+    ensures { λ r. ⌜ r ≡ horner t c0 c1 c2 c3 c4 ⌝ }
 {
     c0 + t * (c1 + t * (c2 + t * (c3 + t * c4)))
 }
@@ -209,51 +209,51 @@ fn reduce(p: f64) -> f64
 }
 
 // The answer for any multipliers, from arguments at hand.
-fn answer_from(a: Arguments, k: Doodson) -> Answer
+fn answer_from(a: Arguments, k: Doodson) -> TideAnswer
     ensures { λ r. ⌜ r ≡ answerOf a k ⌝ }
 {
     if all_in_range(k) {
         let frequency = sum_of_products(k, a.dd1, a.dd2, a.dd3, a.dd4, a.dd5, a.dd6);
         let phase = reduce(sum_of_products(k, a.d1, a.d2, a.d3, a.d4, a.d5, a.d6));
-        Answer::Given(Constituent { frequency, phase })
+        TideAnswer::Tide(Constituent { frequency, phase })
     } else {
-        Answer::Refused(11)
+        TideAnswer::NoTide(11)
     }
 }
 
 // The frequency and phase of a constituent at an instant.
-pub fn frequency_and_phase(day: i64, micros: u64, k: Doodson) -> Answer
+pub fn frequency_and_phase(day: i64, micros: u64, k: Doodson) -> TideAnswer
     ensures { λ r. ⌜ r ≡ tideOf day micros k ⌝ }
 {
-    match calendar::accept(day, micros) {
+    match instants::accept(day, micros) {
         Acceptance::Accepted(_) => answer_from(arguments_at(day, micros), k),
-        Acceptance::NotAccepted(n) => Answer::Refused(n),
+        Acceptance::NotAccepted(n) => TideAnswer::NoTide(n),
     }
 }
 
-pub fn frequency(a: Answer) -> f64
+pub fn frequency(a: TideAnswer) -> f64
     ensures { λ r. ⌜ r ≡ frequencyOf a ⌝ }
 {
     match a {
-        Answer::Given(x) => x.frequency,
-        Answer::Refused(_) => 0.0,
+        TideAnswer::Tide(x) => x.frequency,
+        TideAnswer::NoTide(_) => 0.0,
     }
 }
 
-pub fn phase(a: Answer) -> f64
+pub fn phase(a: TideAnswer) -> f64
     ensures { λ r. ⌜ r ≡ phaseOf a ⌝ }
 {
     match a {
-        Answer::Given(x) => x.phase,
-        Answer::Refused(_) => 0.0,
+        TideAnswer::Tide(x) => x.phase,
+        TideAnswer::NoTide(_) => 0.0,
     }
 }
 
-pub fn refusal(a: Answer) -> u32
-    ensures { λ r. ⌜ r ≡ refusalOf a ⌝ }
+pub fn refusal(a: TideAnswer) -> u32
+    ensures { λ r. ⌜ r ≡ tideRefusalOf a ⌝ }
 {
     match a {
-        Answer::Given(_) => 0,
-        Answer::Refused(n) => n,
+        TideAnswer::Tide(_) => 0,
+        TideAnswer::NoTide(n) => n,
     }
 }

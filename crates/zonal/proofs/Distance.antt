@@ -6,14 +6,14 @@ use Prim.Native.Nat.{ℕ, _+_, _*_, _^_, _≤_, _<_}
 use native.Mathlib.Nat as N
 use lib.Dec.{lit≤}
 use lib.IntN.{ℤ, pos, _-ℤ_, _*ℤ_}
-use Rattle.calendar.specs.Limits.{dayMicros}
+use Rattle.instants.specs.Limits.{dayMicros, daysCovered, indexOffset}
 use Rattle.algebra.specs.Near.{Near}
 use Rattle.algebra.proofs.Near.{near-wide}
-use Rattle.arguments.specs.Exact.{sinceJ2000, century, turnParts, exactAngle}
-use Rattle.arguments.specs.Ours.{moment, ourAngle}
-use Rattle.arguments.specs.Inner.{daysCovered}
+use Rattle.instants.specs.Moments.{sinceJ2000, century, moment}
+use Rattle.arguments.specs.Exact.{turnParts, exactAngle}
+use Rattle.arguments.specs.Ours.{ourAngle}
 use Rattle.arguments.proofs.Distance.{angleDistance, angle-near, our-angle-less, exact-angle-less}
-use Rattle.sine.proofs.Series.{sineDen-some}
+use Rattle.sine.proofs.Series.{sineDen-positive}
 use Rattle.sine.proofs.Distance.{SineNear, sineDistance, sine-near, cosine-near, rounded-near}
 use Rattle.zonal.specs.declared.Corrections.{Corrections}
 use Rattle.zonal.specs.Exact.{rows, coefficient, denominator, exactRowSine, exactRowCosine}
@@ -40,7 +40,7 @@ room = (lit≤ tt, lit≤ tt, lit≤ tt)
 quarter : ℕ
 quarter = 900_000_000_000 * century ^ 4
 
-module _ (d : ℤ) (i m : ℕ) (hd : d ≡ pos i -ℤ pos 94553) (hi : i < daysCovered) (hm : m < dayMicros) where
+module _ (d : ℤ) (i m : ℕ) (hd : d ≡ pos i -ℤ pos indexOffset) (hi : i < daysCovered) (hm : m < dayMicros) where
   abbrev x : ℕ
   x = moment i m
 
@@ -69,7 +69,7 @@ module _ (d : ℤ) (i m : ℕ) (hd : d ≡ pos i -ℤ pos 94553) (hi : i < daysC
   pub corrections-near : Within proved n (correctionsAt i m)
   unfolding correctionsAt
   corrections-near = record {
-    some = sineDen-some turnParts (lit≤ tt);
+    some = sineDen-positive turnParts (lit≤ tt);
     ut1 = rw (ut1-is (rowSine x) (rowCosine x), ut1-is (exactRowSine n) (exactRowCosine n)) (number-near 10 0 (proved .ut1) (rowSine x) (rowCosine x) (exactRowSine n) (exactRowCosine n) (room .0) row-sine row-cosine);
     lod = rw (lod-is (rowSine x) (rowCosine x), lod-is (exactRowSine n) (exactRowCosine n)) (number-near 1000 2 (proved .lod) (rowCosine x) (rowSine x) (exactRowCosine n) (exactRowSine n) (room .1) row-cosine row-sine);
     rate = rw (rate-is (rowSine x) (rowCosine x), rate-is (exactRowSine n) (exactRowCosine n)) (number-near 100 4 (proved .rate) (rowCosine x) (rowSine x) (exactRowCosine n) (exactRowSine n) (room .2) row-cosine row-sine);

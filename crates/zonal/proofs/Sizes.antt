@@ -10,7 +10,8 @@ use lib.Signed.{shrZ}
 use mir.Syntax.{w32}
 use mir.Val.{SFits}
 use Rattle.algebra.proofs.Order.{abs-mul, abs-add}
-use Rattle.arguments.specs.Ours.{moment, ourAngle}
+use Rattle.instants.specs.Moments.{moment}
+use Rattle.arguments.specs.Ours.{ourAngle}
 use Rattle.arguments.proofs.Rows.{coefficient-small}
 use Rattle.sine.proofs.Sizes as sizes
 use Rattle.sine.proofs.Sizes.{sineMost}

@@ -13,12 +13,12 @@ use Rattle.algebra.specs.Near.{Near}
 use Rattle.algebra.proofs.Polynomial.{eqℤ}
 use Rattle.algebra.proofs.Ring.{end, _▸_, ring, quote}
 use Rattle.algebra.proofs.Near.{near-as, near-sym, near-trans, near-unscale}
-use Rattle.calendar.specs.Instants.{outside, indexAt, acceptance, IsAccepted}
-use Rattle.arguments.specs.Exact.{sinceJ2000}
+use Rattle.instants.specs.Instants.{outside, dayIndex, acceptance, IsAccepted}
+use Rattle.instants.specs.Moments.{sinceJ2000}
 use Rattle.sine.specs.Exact.{S, sineDen, wholeTurn, exactSine, exactCosine}
-use Rattle.sine.specs.Ours.{nested, sineQuarter, quarterTurn, ourSine, ourCosine}
+use Rattle.sine.specs.Ours.{alternating, sineQuarter, quarterTurn, ourSine, ourCosine}
 use Rattle.zonal.specs.declared.Corrections.{Corrections}
-use Rattle.zonal.specs.declared.ZonalAnswer.the-variants.{Given}
+use Rattle.zonal.specs.declared.ZonalAnswer.the-variants.{Zonal}
 use Rattle.zonal.specs.Exact.{ut1Sum, lodSum, rateSum, denominator, exactUt1, exactLod, exactRate}
 use Rattle.zonal.specs.Ours.{corrections, correctionsAt, zonalOf}
 use Rattle.zonal.specs.Within.{promised, Within}
@@ -29,11 +29,11 @@ use Rattle.zonal.proofs.Promises.{accepted-near, accepted-given}
 
 -- it is accepted, and so is the day after
 pub case-accepted : IsAccepted (+ 54465) 0
-unfolding acceptance outside indexAt
+unfolding acceptance outside dayIndex
 case-accepted = refl
 
 pub next-accepted : IsAccepted (+ 54466) 0
-unfolding acceptance outside indexAt
+unfolding acceptance outside dayIndex
 next-accepted = refl
 
 -- a thousand times an exact sum, towards zero
@@ -50,17 +50,17 @@ exact-case = tt
 
 -- ours, there and a day later
 our-case : correctionsAt 149018 0 ≡ corrections (+ 79832877) (+ 50353031) (− 4249712)
-unfolding correctionsAt ut1Sum lodSum rateSum ourSine ourCosine wholeTurn quarterTurn sineQuarter nested
+unfolding correctionsAt ut1Sum lodSum rateSum ourSine ourCosine wholeTurn quarterTurn sineQuarter alternating
 our-case = refl
 
 our-next : correctionsAt 149019 0 ≡ corrections (+ 79837323) (− 67358353) (+ 5684997)
-unfolding correctionsAt ut1Sum lodSum rateSum ourSine ourCosine wholeTurn quarterTurn sineQuarter nested
+unfolding correctionsAt ut1Sum lodSum rateSum ourSine ourCosine wholeTurn quarterTurn sineQuarter alternating
 our-next = refl
 
 -- PROMISE. Our answer to the test case of RG_ZONT2.
-pub case-answered : zonalOf (+ 54465) 0 ≡ Given (corrections (+ 79832877) (+ 50353031) (− 4249712))
-unfolding indexAt
-case-answered = rw (accepted-given (+ 54465) 0 case-accepted) (ap Given our-case)
+pub case-answered : zonalOf (+ 54465) 0 ≡ Zonal (corrections (+ 79832877) (+ 50353031) (− 4249712))
+unfolding dayIndex
+case-answered = rw (accepted-given (+ 54465) 0 case-accepted) (ap Zonal our-case)
 
 -- ---- constants
 
@@ -80,7 +80,7 @@ pub record NearOurs (c : Corrections) (a b r : ℤ) : Type 0 where
   pub lod : Near (c .lod) b (promised .lod + proved .lod)
   pub rate : Near (c .rate) r (promised .rate + proved .rate)
 
-near-ours : (d : ℤ) (m : ℕ) (c : Corrections) (a b r : ℤ) → IsAccepted d m → correctionsAt (indexAt d) m ≡ corrections a b r → Within promised (sinceJ2000 d m) c → NearOurs c a b r
+near-ours : (d : ℤ) (m : ℕ) (c : Corrections) (a b r : ℤ) → IsAccepted d m → correctionsAt (dayIndex d) m ≡ corrections a b r → Within promised (sinceJ2000 d m) c → NearOurs c a b r
 near-ours d m c a b r h e w =
     let o : Within proved (sinceJ2000 d m) (corrections a b r) = subst (λ (s : Corrections). Within proved (sinceJ2000 d m) s) e (accepted-near d m h) in
     record {
@@ -90,11 +90,11 @@ near-ours d m c a b r h e w =
     }
 
 case-near : (c : Corrections) → Within promised (sinceJ2000 (+ 54465) 0) c → NearOurs c (+ 79832877) (+ 50353031) (− 4249712)
-unfolding indexAt
+unfolding dayIndex
 case-near c w = near-ours (+ 54465) 0 c (+ 79832877) (+ 50353031) (− 4249712) case-accepted our-case w
 
 next-near : (c : Corrections) → Within promised (sinceJ2000 (+ 54466) 0) c → NearOurs c (+ 79837323) (− 67358353) (+ 5684997)
-unfolding indexAt
+unfolding dayIndex
 next-near c w = near-ours (+ 54466) 0 c (+ 79837323) (− 67358353) (+ 5684997) next-accepted our-next w
 
 -- one number is not near two that are far apart

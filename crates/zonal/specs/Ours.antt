@@ -4,13 +4,14 @@ use Prim.Native.Nat.{ℕ, _^_}
 use lib.IntN.{ℤ, _+ℤ_, _*ℤ_}
 use lib.Signed.{shrZ}
 use Rattle.algebra.specs.Integers.{+_}
-use Rattle.calendar.specs.Refusals.{refusedOr}
-use Rattle.calendar.specs.Instants.{indexAt, instantCases}
-use Rattle.arguments.specs.Ours.{moment, ourAngle}
+use Rattle.instants.specs.Refusals.{refusedOr}
+use Rattle.instants.specs.Instants.{dayIndex, instantCases}
+use Rattle.instants.specs.Moments.{moment}
+use Rattle.arguments.specs.Ours.{ourAngle}
 use Rattle.sine.specs.Ours.{ourSine, ourCosine}
 use Rattle.zonal.specs.declared.Corrections.{Corrections}
 use Rattle.zonal.specs.declared.ZonalAnswer.{ZonalAnswer}
-use Rattle.zonal.specs.declared.ZonalAnswer.the-variants.{Given, Refused}
+use Rattle.zonal.specs.declared.ZonalAnswer.the-variants.{Zonal, NoZonal}
 use Rattle.zonal.specs.Exact.{ut1Sum, lodSum, rateSum}
 
 -- our sine and cosine of the row r at the moment x, in units of 2^-31
@@ -45,21 +46,21 @@ correctionsAt i m = corrections (ourUt1 (moment i m)) (ourLod (moment i m)) (our
 
 -- the answer: the three numbers of an accepted instant, or its refusal
 unfoldable pub zonalOf : ℤ → ℕ → ZonalAnswer
-zonalOf d m = refusedOr Refused (instantCases d m) (Given (correctionsAt (indexAt d) m))
+zonalOf d m = refusedOr NoZonal (instantCases d m) (Zonal (correctionsAt (dayIndex d) m))
 
 -- the numbers that the exported calls give for an answer
 abbrev pub ut1Of : ZonalAnswer → ℤ
-ut1Of (Given c) = c .ut1
-ut1Of (Refused n) = + 0
+ut1Of (Zonal c) = c .ut1
+ut1Of (NoZonal n) = + 0
 
 abbrev pub lodOf : ZonalAnswer → ℤ
-lodOf (Given c) = c .lod
-lodOf (Refused n) = + 0
+lodOf (Zonal c) = c .lod
+lodOf (NoZonal n) = + 0
 
 abbrev pub rateOf : ZonalAnswer → ℤ
-rateOf (Given c) = c .rate
-rateOf (Refused n) = + 0
+rateOf (Zonal c) = c .rate
+rateOf (NoZonal n) = + 0
 
-abbrev pub refusalOf : ZonalAnswer → ℕ
-refusalOf (Given c) = 0
-refusalOf (Refused n) = n
+abbrev pub zonalRefusalOf : ZonalAnswer → ℕ
+zonalRefusalOf (Zonal c) = 0
+zonalRefusalOf (NoZonal n) = n

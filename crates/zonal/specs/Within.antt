@@ -5,9 +5,9 @@ use Prim.Native.Nat.{ℕ, _*_, _<_}
 use lib.IntN.{ℤ, _*ℤ_}
 use Rattle.algebra.specs.Integers.{+_}
 use Rattle.algebra.specs.Near.{Near}
-use Rattle.arguments.specs.Exact.{sinceJ2000}
+use Rattle.instants.specs.Moments.{sinceJ2000}
 use Rattle.zonal.specs.declared.Corrections.{Corrections}
-use Rattle.zonal.specs.declared.ZonalAnswer.the-variants.{Given}
+use Rattle.zonal.specs.declared.ZonalAnswer.the-variants.{Zonal}
 use Rattle.zonal.specs.Exact.{denominator, exactUt1, exactLod, exactRate}
 use Rattle.zonal.specs.Ours.{zonalOf}
 
@@ -34,5 +34,5 @@ pub record Within (e : Distances) (n : ℤ) (c : Corrections) : Type 0 where
 -- The instant is answered, within the distances e.
 pub record Answered (e : Distances) (d : ℤ) (m : ℕ) : Type 0 where
   pub numbers : Corrections
-  pub given : zonalOf d m ≡ Given numbers
+  pub given : zonalOf d m ≡ Zonal numbers
   pub within : Within e (sinceJ2000 d m) numbers

@@ -2,12 +2,12 @@
 // Their distance from the exact sums is proved in proofs/Distance.antt, and promised in proofs/Promises.antt.
 mod table;
 
-use calendar::Acceptance;
+use instants::Acceptance;
 ghost use mathlib.Core.Path.{_≡_};
 ghost use Prim.Native.Nat.{_≤_, _<_};
 ghost use lib.IntN.{natAbs, _+ℤ_, _*ℤ_};
-ghost use Rattle.calendar.specs.Limits.{dayMicros};
-ghost use Rattle.arguments.specs.Inner.{daysCovered, latest};
+ghost use Rattle.instants.specs.Limits.{dayMicros, daysCovered};
+ghost use Rattle.instants.specs.Moments.{latest};
 ghost use Rattle.arguments.specs.Table.{multipliers, coefficients};
 ghost use Rattle.zonal.specs.Ours as ours;
 ghost use Rattle.zonal.specs.Inner.{term, productMost, RowBounds, sumsAt};
@@ -20,8 +20,8 @@ pub struct Corrections {
 }
 
 pub enum ZonalAnswer {
-    Given(Corrections),
-    Refused(u32),
+    Zonal(Corrections),
+    NoZonal(u32),
 }
 
 // The three sums over the rows, in units of 2^-31.
@@ -91,7 +91,7 @@ pub fn corrections_at(index: u64, micros: u64) -> Corrections
     requires { ⌜ (index < daysCovered) × (micros < dayMicros) ⌝ }
     ensures { λ r. ⌜ r ≡ ours.correctionsAt index micros ⌝ }
 {
-    let v = table_sums(arguments::moment(index, micros));
+    let v = table_sums(instants::moment(index, micros));
     Corrections {
         ut1: rounded(10, v.ut1),
         lod: rounded(1000, v.lod),
@@ -103,8 +103,8 @@ pub fn corrections_at(index: u64, micros: u64) -> Corrections
 pub fn zonal_of(day: i64, micros: u64) -> ZonalAnswer
     ensures { λ r. ⌜ r ≡ ours.zonalOf day micros ⌝ }
 {
-    match calendar::accept(day, micros) {
-        Acceptance::NotAccepted(n) => ZonalAnswer::Refused(n),
-        Acceptance::Accepted(i) => ZonalAnswer::Given(corrections_at(i, micros)),
+    match instants::accept(day, micros) {
+        Acceptance::NotAccepted(n) => ZonalAnswer::NoZonal(n),
+        Acceptance::Accepted(i) => ZonalAnswer::Zonal(corrections_at(i, micros)),
     }
 }

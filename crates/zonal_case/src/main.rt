@@ -41,7 +41,7 @@ fn compare(name: &[u8], ours: i32, printed: &[u8], theirs: i32, limit: u64) {
 
 fn main() {
     match zonal::zonal_of(54465, 0) {
-        ZonalAnswer::Given(c) => {
+        ZonalAnswer::Zonal(c) => {
             compare(
                 b"UT1 ",
                 c.ut1,
@@ -64,7 +64,7 @@ fn main() {
                 21,
             );
         }
-        ZonalAnswer::Refused(n) => {
+        ZonalAnswer::NoZonal(n) => {
             io::write_all(STDOUT_FILENO, b"refused ");
             io::print_decimal(STDOUT_FILENO, n as u64);
             io::write_all(STDOUT_FILENO, b"\n");

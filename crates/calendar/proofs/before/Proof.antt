@@ -1,5 +1,5 @@
 -- `calendar::before` meets its contract. Assumes nothing.
-use Rattle.calendar.proofs.Months.{month-some}
+use Rattle.calendar.proofs.Months.{month-some, before-table, month-inside, befores, leap-small}
 use native.Mathlib.Omega.{arith}
 use native.Mathlib.Nat.{add-zero}
 use mathlib.Core.Path.{_≡_, sym, _∙_}
@@ -8,7 +8,6 @@ use Prim.Native.Nat.{_-_, _+_}
 use borrow.Author.Tests.{le-leb, lt-leb}
 use Rattle.calendar.specs.Dates.{daysBefore}
 use Rattle.calendar.specs.Inner.{leapDay}
-use Rattle.calendar.proofs.Months.{before-table, month-inside, befores, leap-small}
 use borrow.Author.Needs.{needs}
 use Rattle.calendar.proofs.before.Statement.{statement}
 use Rattle.calendar.proofs.before.Tie as tie

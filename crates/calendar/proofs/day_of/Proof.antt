@@ -1,10 +1,10 @@
 -- `calendar::day_of` meets its contract. Assumes nothing.
 use Rattle.calendar.specs.declared.DayAnswer.the-variants.{Day}
 use mir.Facts.{toZ-ofZ}
-use Rattle.calendar.specs.Dates.{date}
+use Rattle.calendar.specs.Dates.{date, dayOf, dateIndex}
 use Prim.Native.Nat.{_+_, _-_}
 use mathlib.Core.Path.{ap, _∙_, _≡_}
-use Rattle.calendar.specs.Dates.{dayOf, numberOf, indexOf}
+use Rattle.instants.specs.Instants.{dayAtIndex}
 use native.Mathlib.Omega.{arith}
 use borrow.Author.Tests.{lt-ltb, le-ltb}
 use borrow.Author.Needs.{needs}
@@ -50,25 +50,25 @@ years-requires c κs = search needs
 before-requires : tie.Need-before-requires
 before-requires c κs = search needs
 
-add-number : tie.Need-add-number
-add-number c = omega arith
+add-day-at-index : tie.Need-add-day-at-index
+add-day-at-index c = omega arith
 
-add-number-2 : tie.Need-add-number-2
-add-number-2 c = omega arith
+add-day-at-index-2 : tie.Need-add-day-at-index-2
+add-day-at-index-2 c = omega arith
 
-number-requires : tie.Need-number-requires
-number-requires c κs = omega arith
+day-at-index-requires : tie.Need-day-at-index-requires
+day-at-index-requires c κs = omega arith
 
 returns-7 : tie.Need-returns-7
-unfolding dayOf indexOf
+unfolding dayOf dateIndex
 returns-7 c =
     let c6 = c .before .before .before in
     let c5 = c6 .before .before in
     let e = c5 .before .before .before .before in
     let a = e .before .args in
-    let n : c .before .before .years .result + c .before .before2 .result + (a .day - 1) ≡ indexOf (date (a .year) (a .month) (a .day)) = simp (c .before .before .years .ensures .0, c .before .before2 .ensures .0) in
+    let n : c .before .before .years .result + c .before .before2 .result + (a .day - 1) ≡ dateIndex (date (a .year) (a .month) (a .day)) = simp (c .before .before .years .ensures .0, c .before .before2 .ensures .0) in
     simp (le-ltb _ _ (e .if1 .left), le-ltb _ _ (c5 .before .before .before .if2 .left), le-ltb _ _ (c5 .before .before .if3 .left), le-ltb _ _ (c5 .before .if4 .left), le-ltb _ _ (c5 .if5 .left), ← c6 .before .month-length .ensures .0, le-ltb _ _ (c6 .if6 .left))
-    (ap Day (toZ-ofZ (search needs) ∙ (c .number .ensures ∙ ap numberOf n)))
+    (ap Day (toZ-ofZ (search needs) ∙ (c .day-at-index .ensures ∙ ap dayAtIndex n)))
 
 pub day-of-spec : {M : Type 1} → statement M
 day-of-spec =
@@ -84,7 +84,7 @@ day-of-spec =
     sub-years
     years-requires
     before-requires
-    add-number
-    add-number-2
-    number-requires
+    add-day-at-index
+    add-day-at-index-2
+    day-at-index-requires
     returns-7)

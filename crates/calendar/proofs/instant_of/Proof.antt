@@ -10,7 +10,7 @@ use Rattle.calendar.specs.declared.InstantAnswer.the-variants.{NoInstant
 use Rattle.calendar.specs.Dates.{dateCases, dayOf}
 use Rattle.calendar.specs.Times.{instantOf}
 use Rattle.calendar.specs.Inner.{timeOf}
-use Rattle.calendar.proofs.FirstRefusal.{handed-on}
+use Rattle.instants.proofs.FirstRefusal.{handed-on}
 use borrow.Author.Needs.{needs}
 use Rattle.calendar.proofs.instant_of.Statement.{statement}
 use Rattle.calendar.proofs.instant_of.Tie as tie

@@ -1,5 +1,5 @@
 -- `calendar::month_length` meets its contract. Assumes nothing.
-use Rattle.calendar.proofs.Months.{month-short}
+use Rattle.calendar.proofs.Months.{month-short, length-table, commons}
 use Prim.Native.Nat.{ℕ}
 use mathlib.Core.Path.{ap}
 use native.Mathlib.Omega.{arith}
@@ -10,7 +10,6 @@ use Prim.Native.Nat.{_-_, _+_}
 use borrow.Author.Tests.{eq-eqb, ne-eqb}
 use Rattle.calendar.specs.Dates.{monthLength}
 use Rattle.calendar.specs.Inner.{leapDay}
-use Rattle.calendar.proofs.Months.{length-table, commons}
 use borrow.Author.Needs.{needs}
 use Rattle.calendar.proofs.month_length.Statement.{statement}
 use Rattle.calendar.proofs.month_length.Tie as tie

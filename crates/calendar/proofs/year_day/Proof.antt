@@ -1,6 +1,5 @@
 -- `calendar::year_day` meets its contract. Assumes nothing.
-use Rattle.calendar.proofs.Groups.{year-fits}
-use Rattle.calendar.proofs.Groups.{placed}
+use Rattle.calendar.proofs.Groups.{year-fits, placed}
 use native.Mathlib.Omega.{arith}
 use Prim.Native.Nat.{_+_, _-_, _*_, _/_, _%_, _<_}
 use borrow.Author.Needs.{needs}

@@ -5,9 +5,9 @@ use mathlib.Core.Path.{_≡_, _∙_, ap, sym}
 use lib.IntN.{ℤ}
 use borrow.Author.Tests.{eq-eqb, ne-eqb}
 use mir.Facts.{toZ-ofZ}
-use Rattle.calendar.specs.declared.Acceptance.the-variants.{Accepted}
-use Rattle.calendar.specs.Instants.{acceptance}
-use Rattle.calendar.proofs.Index.{AcceptedAt, accepted-at, refused-too}
+use Rattle.instants.specs.declared.Acceptance.the-variants.{Accepted}
+use Rattle.instants.specs.Instants.{acceptance}
+use Rattle.instants.proofs.Accepted.{AcceptedAt, accepted-at, refused-too}
 use Rattle.clock.specs.declared.JoinAnswer.the-variants.{NoJoin}
 use Rattle.clock.specs.Words.{markUnit, mark, joinOf}
 use Rattle.clock.proofs.Mark.{mark-index}

@@ -4,9 +4,9 @@ use native.Mathlib.Omega.{arith}
 use mathlib.Core.Path.{_≡_, _∙_, ap, sym}
 use lib.IntN.{ℤ}
 use mir.Facts.{toZ-ofZ}
-use Rattle.calendar.specs.declared.Acceptance.the-variants.{Accepted}
-use Rattle.calendar.specs.Instants.{acceptance}
-use Rattle.calendar.proofs.Index.{AcceptedAt, accepted-at, refused-too, answered-too}
+use Rattle.instants.specs.declared.Acceptance.the-variants.{Accepted}
+use Rattle.instants.specs.Instants.{acceptance}
+use Rattle.instants.proofs.Accepted.{AcceptedAt, accepted-at, refused-too, answered-too}
 use Rattle.clock.specs.declared.SplitAnswer.the-variants.{NoSplit}
 use Rattle.clock.specs.Words.{mark, splitOf}
 use Rattle.clock.proofs.Mark.{mark-index}

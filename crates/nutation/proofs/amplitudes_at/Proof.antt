@@ -1,7 +1,8 @@
 -- `nutation::amplitudes_at` meets its contract: by the two kinds of place. Assumes nothing.
 use mathlib.Core.Path.{sym, _∙_, ap, subst}
 use Rattle.nutation.specs.declared.Place.{Place}
-use Rattle.nutation.specs.Inner.{since, Placed, amplitudes}
+use Rattle.instants.specs.Moments.{since}
+use Rattle.nutation.specs.Inner.{Placed, amplitudes}
 use borrow.Author.Needs.{needs}
 use Rattle.nutation.proofs.amplitudes_at.Statement.{statement}
 use Rattle.nutation.proofs.amplitudes_at.Tie as tie

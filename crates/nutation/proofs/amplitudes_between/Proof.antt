@@ -5,10 +5,11 @@ use lib.IntN.{ℤ}
 use mir.Syntax.{w64}
 use mir.Val.{SFits}
 use mir.Facts.{toZ-ofZ}
-use Rattle.calendar.specs.Limits.{dayMicros}
+use Rattle.instants.specs.Limits.{dayMicros}
 use Rattle.nutation.specs.declared.Amplitudes.{Amplitudes}
 use Rattle.nutation.specs.Ours.{factor, mixed, amplitude}
-use Rattle.nutation.specs.Inner.{since, amplitudes}
+use Rattle.instants.specs.Moments.{since}
+use Rattle.nutation.specs.Inner.{amplitudes}
 use Rattle.nutation.proofs.Sizes.{factor-is}
 use borrow.Author.Needs.{needs}
 use Rattle.nutation.proofs.amplitudes_between.Statement.{statement}

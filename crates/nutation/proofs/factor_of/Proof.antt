@@ -1,7 +1,7 @@
 -- `nutation::factor_of` meets its contract: the quotient in two steps. Assumes nothing.
 use native.Mathlib.Nat.{le-trans, le-of-eq}
 use Prim.Native.Nat.{_*_}
-use Rattle.calendar.specs.Limits.{dayMicros}
+use Rattle.instants.specs.Limits.{dayMicros}
 use Rattle.nutation.proofs.Sizes.{factor-steps, factor-le}
 use borrow.Author.Needs.{needs}
 use Rattle.nutation.proofs.factor_of.Statement.{statement}

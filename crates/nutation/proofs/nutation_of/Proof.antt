@@ -5,17 +5,17 @@ use native.Mathlib.Nat.{le-trans, le-of-eq}
 use native.Mathlib.Omega.{arith}
 use lib.IntN.{ℤ}
 use mir.Facts.{toZ-ofZ}
-use Rattle.calendar.specs.Instants.{acceptance}
-use Rattle.calendar.specs.declared.Acceptance.the-variants.{Accepted}
-use Rattle.calendar.proofs.Index.{AcceptedAt, accepted-at, refused-too, answered-too}
-use Rattle.arguments.specs.Ours.{moment}
-use Rattle.arguments.proofs.Bounds.{moment-le}
+use Rattle.instants.specs.Instants.{acceptance}
+use Rattle.instants.specs.declared.Acceptance.the-variants.{Accepted}
+use Rattle.instants.proofs.Accepted.{AcceptedAt, accepted-at, refused-too, answered-too}
+use Rattle.instants.specs.Moments.{moment, since}
+use Rattle.instants.proofs.Moments.{moment-le}
 use Rattle.nutation.specs.declared.Row.{Row}
-use Rattle.nutation.specs.declared.NutationAnswer.the-variants.{Given, Refused}
+use Rattle.nutation.specs.declared.NutationAnswer.the-variants.{Nutation, NoNutation}
 use Rattle.nutation.specs.Table.{builtIn}
 use Rattle.nutation.specs.Exact.{place}
 use Rattle.nutation.specs.Ours.{offsetsAt, nutationOf}
-use Rattle.nutation.specs.Inner.{since, numbers}
+use Rattle.nutation.specs.Inner.{numbers}
 use Rattle.nutation.proofs.Time.{instant-is}
 use Rattle.nutation.proofs.Accepted.{builtIn-accepted, lent, builtIn-rows}
 use borrow.Author.Needs.{needs}
@@ -54,15 +54,15 @@ returns : tie.Need-returns
 unfolding nutationOf
 returns c =
     let s = c .before .before .before .before in
-    refused-too Refused _ _ _ (sym (c .before .before .before .accept .ensures ∙ ap (λ (d : ℤ). acceptance d (s .args .micros)) (toZ-ofZ (s .fits .day))) ∙ c .before .n .given .1)
+    refused-too NoNutation _ _ _ (sym (c .before .before .before .accept .ensures ∙ ap (λ (d : ℤ). acceptance d (s .args .micros)) (toZ-ofZ (s .fits .day))) ∙ c .before .n .given .1)
 
 returns-2 : tie.Need-returns-2
 unfolding nutationOf numbers builtIn
 returns-2 c =
     let a = c .before .before in
     let s = a .before .before .before .before .before in
-    ap Given (c .offsets-at .ensures ∙ ap₂ (λ (rows : List Row) (n : ℤ). offsetsAt (place rows n) n) builtIn-rows (ap since (c .before .moment .ensures) ∙ sym (instant-is (s .args .day) _ (s .args .micros) (known a .is))))
-    ∙ answered-too Refused _ _ _ (says a)
+    ap Nutation (c .offsets-at .ensures ∙ ap₂ (λ (rows : List Row) (n : ℤ). offsetsAt (place rows n) n) builtIn-rows (ap since (c .before .moment .ensures) ∙ sym (instant-is (s .args .day) _ (s .args .micros) (known a .is))))
+    ∙ answered-too NoNutation _ _ _ (says a)
 
 pub nutation-of-spec : {M : Type 1} → statement M
 nutation-of-spec =

@@ -2,7 +2,8 @@
 use mathlib.Core.Path.{sym, _∙_, ap, subst}
 use Rattle.nutation.specs.declared.Place.{Place}
 use Rattle.nutation.specs.Ours.{offsetsAt}
-use Rattle.nutation.specs.Inner.{since, rowsOf, Placed}
+use Rattle.instants.specs.Moments.{since}
+use Rattle.nutation.specs.Inner.{rowsOf, Placed}
 use Rattle.nutation.proofs.Places.{placed}
 use borrow.Author.Needs.{needs}
 use Rattle.nutation.proofs.offsets_at.Statement.{statement}

@@ -14,7 +14,8 @@ use Rattle.nutation.specs.declared.Place.{Place}
 use Rattle.nutation.specs.declared.Amplitudes.{Amplitudes}
 use Rattle.nutation.specs.declared.Offsets.{Offsets}
 use Rattle.nutation.specs.Ours.{momentOf, ourAngle, ourXC, ourXS, ourYS, offset, offsetsAt}
-use Rattle.nutation.specs.Inner.{since, amplitudes, widest}
+use Rattle.instants.specs.Moments.{since}
+use Rattle.nutation.specs.Inner.{amplitudes, widest}
 use Rattle.nutation.proofs.Time.{moment-back}
 use Rattle.nutation.proofs.Sizes.{amplitude-small, minus-fits, angle-less}
 use borrow.Author.Needs.{needs}

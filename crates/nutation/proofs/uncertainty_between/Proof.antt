@@ -1,7 +1,7 @@
 -- `nutation::uncertainty_between` meets its contract. Assumes nothing.
 use mathlib.Core.Path.{sym, _∙_, ap}
 use Prim.Native.Nat.{ℕ, _*_, _-_}
-use Rattle.calendar.specs.Limits.{dayMicros}
+use Rattle.instants.specs.Limits.{dayMicros}
 use Rattle.nutation.specs.Inner.{twiceBetween}
 use Rattle.nutation.proofs.Rounding.{between-is}
 use borrow.Author.Needs.{needs}

@@ -1,7 +1,7 @@
 -- `nutation::uncertainty_end` meets its contract: 20 times the row's uncertainty is whole. Assumes nothing.
 use mathlib.Core.Path.{_≡_, sym, _∙_, ap}
 use Prim.Native.Nat.{ℕ, _+_, _*_}
-use Rattle.calendar.specs.Limits.{dayMicros}
+use Rattle.instants.specs.Limits.{dayMicros}
 use Rattle.algebra.specs.Integers.{dist}
 use Rattle.nutation.specs.Exact.{roundUp}
 use Rattle.nutation.specs.Inner.{dateMoment}

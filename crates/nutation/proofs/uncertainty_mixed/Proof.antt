@@ -3,7 +3,7 @@ use mathlib.Core.Path.{_∙_, ap}
 use Prim.Native.Nat.{ℕ, _+_, _*_, _-_, _/_, _%_, _≤_, _<_}
 use native.Mathlib.Nat.{mul-le-mul}
 use native.Mathlib.Omega.{arith}
-use Rattle.calendar.specs.Limits.{dayMicros}
+use Rattle.instants.specs.Limits.{dayMicros}
 use Rattle.nutation.specs.Table.{lastRowDay, largest}
 use Rattle.nutation.specs.Exact.{roundUp}
 use Rattle.nutation.proofs.Rounding.{between-steps}

@@ -2,7 +2,8 @@
 use mathlib.Core.Path.{sym, _∙_, ap, subst}
 use Rattle.nutation.specs.declared.Place.{Place}
 use Rattle.nutation.specs.Exact.{uncertaintyAt}
-use Rattle.nutation.specs.Inner.{since, Placed}
+use Rattle.instants.specs.Moments.{since}
+use Rattle.nutation.specs.Inner.{Placed}
 use borrow.Author.Needs.{needs}
 use Rattle.nutation.proofs.uncertainty_of.Statement.{statement}
 use Rattle.nutation.proofs.uncertainty_of.Tie as tie

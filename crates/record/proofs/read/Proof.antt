@@ -8,7 +8,7 @@ use mir.Syntax.{w32, w64}
 use mir.Val.{SFits}
 use mir.Facts.{toZ-ofZ, toZ-pos}
 use Rattle.bigendian.specs.Numbers.{numberAt}
-use Rattle.calendar.proofs.FirstRefusal.{refused-first}
+use Rattle.instants.proofs.FirstRefusal.{refused-first}
 use Rattle.clock.specs.Words.{joinOf}
 use Rattle.record.specs.declared.ReadAnswer.the-variants.{NoRecord}
 use Rattle.record.specs.Records.{formCases, formRefusal, readOf}

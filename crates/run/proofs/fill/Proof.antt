@@ -1,5 +1,5 @@
 -- `run::fill` meets its contract. The invariant: the first k records stand at the front, and behind them the buffer is as it was. Assumes nothing.
-use Prim.Native.Nat.{_+_, _-_, _*_, _≤_}
+use Prim.Native.Nat.{_+_, _-_, _*_, _^_, _≤_, _<_}
 use native.Mathlib.Omega.{arith}
 use mathlib.Core.Path.{_≡_, refl, _∙_, ap}
 use mathlib.Core.List.{_++_}
@@ -9,10 +9,9 @@ use lib.ListN.{length, drop}
 use mir.Syntax.{w64}
 use mir.Val.{toZ, ofZ}
 use mir.Facts.{toZ-ofZ}
-use Rattle.calendar.specs.Limits.{dayMicros}
-use Rattle.calendar.specs.Instants.{IsAccepted}
+use Rattle.instants.specs.Instants.{IsAccepted, laterDay, laterMicros}
 use Rattle.record.specs.Format.{recordLength}
-use Rattle.run.specs.Run.{mostRecords, laterDay, laterMicros, runBytes}
+use Rattle.run.specs.Run.{runBytes}
 use Rattle.run.proofs.Refusals.{NotRefused, not-refused, steps-few, run-accepted}
 use Rattle.run.proofs.Records.{Filled, filled-length, filled-more}
 use borrow.Author.Needs.{needs}
@@ -33,7 +32,7 @@ module _ (c : tie.In-loop Inv-loop μ-loop) where
   abbrev s : tie.Start Inv-loop μ-loop
   s = c .before .before .before
 
-  time : c .before .loop .k * s .args .step ≤ mostRecords * dayMicros
+  time : c .before .loop .k * s .args .step < 2 ^ 62
   time = steps-few (c .before .loop .k) (s .args .step) (omega (arith, known s .counted .few)) (known s .counted .most)
 
   -- there is room for one more record

@@ -1,5 +1,5 @@
 -- `run::refusal` meets its contract. Assumes nothing.
-use Prim.Native.Nat.{ℕ, _-_, _*_, _≤_}
+use Prim.Native.Nat.{ℕ, _-_, _*_, _^_, _<_}
 use native.Mathlib.Omega.{arith}
 use mathlib.Core.Path.{_≡_, refl, _∙_, ap, sym}
 use mathlib.Core.Bool.{Bool, true, false, cond}
@@ -10,13 +10,13 @@ use borrow.Author.Tests.{lt-ltb, le-ltb}
 use mir.Syntax.{w64}
 use mir.Val.{toZ, ofZ}
 use mir.Facts.{toZ-ofZ}
-use Rattle.calendar.specs.declared.Instant.{Instant}
-use Rattle.calendar.specs.Limits.{lastDay, dayMicros}
-use Rattle.calendar.specs.Instants.{acceptance, acceptanceRefusal, IsAccepted}
+use Rattle.instants.specs.declared.Instant.{Instant}
+use Rattle.instants.specs.Limits.{lastDay}
+use Rattle.instants.specs.Instants.{acceptance, acceptanceRefusal, IsAccepted, laterDay, laterMicros}
 use Rattle.record.specs.Format.{recordLength}
-use Rattle.run.specs.Run.{mostRecords, laterDay, laterMicros, runRefusal}
-use Rattle.run.specs.Inner.{laterInstant}
-use Rattle.run.proofs.Instants.{day-fits}
+use Rattle.run.specs.Run.{runRefusal}
+use Rattle.instants.specs.Inner.{laterInstant}
+use Rattle.instants.proofs.LaterInstants.{day-fits}
 use Rattle.run.proofs.Refusals.{none-accepted, later-refusal, Counted, refused-at-start, refused-later, steps-few}
 use borrow.Author.Needs.{needs}
 use Rattle.run.proofs.refusal.Statement.{statement}
@@ -38,7 +38,7 @@ module _ (c : tie.Else5) where
   abbrev t : ℕ
   t = (s (c .before) .args .count - 1) * s (c .before) .args .step
 
-  few : t ≤ mostRecords * dayMicros
+  few : t < 2 ^ 62
   few = steps-few (s (c .before) .args .count - 1) (s (c .before) .args .step) (omega (arith, counted (c .before) .few)) (counted (c .before) .most)
 
   accepted : IsAccepted (s (c .before) .args .day) (s (c .before) .args .micros)

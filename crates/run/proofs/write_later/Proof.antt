@@ -6,11 +6,11 @@ use lib.IntN.{ℤ}
 use mir.Syntax.{w32, w64}
 use mir.Val.{toZ, ofZ}
 use mir.Facts.{toZ-ofZ}
-use Rattle.calendar.specs.declared.Instant.{Instant}
+use Rattle.instants.specs.declared.Instant.{Instant}
 use Rattle.zonal.specs.Ours.{zonalOf}
-use Rattle.run.specs.Run.{laterDay, laterMicros}
-use Rattle.run.specs.Inner.{laterInstant}
-use Rattle.run.proofs.Instants.{day-fits}
+use Rattle.instants.specs.Instants.{laterDay, laterMicros}
+use Rattle.instants.specs.Inner.{laterInstant}
+use Rattle.instants.proofs.LaterInstants.{day-fits}
 use Rattle.run.proofs.Records.{written-refused, written-given}
 use borrow.Author.Needs.{needs}
 use Rattle.run.proofs.write_later.Statement.{statement}

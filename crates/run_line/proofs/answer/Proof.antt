@@ -7,13 +7,13 @@ use mir.Syntax.{w64}
 use mir.Val.{toZ, ofZ}
 use mir.Facts.{toZ-ofZ}
 use Prim.Native.Nat.{_*_}
-use Rattle.calendar.specs.Refusals.{refusedOr}
+use Rattle.instants.specs.Refusals.{refusedOr}
 use Rattle.line.specs.declared.Line.{Line}
 use Rattle.line.specs.declared.LineAnswer.the-variants.{Parsed}
 use Rattle.line.specs.Lines.{lineOf}
 use Rattle.record.specs.Format.{recordLength}
 use Rattle.run.specs.Run.{runWritten}
-use Rattle.run_line.specs.declared.Outcome.the-variants.{Run, Refused}
+use Rattle.run_line.specs.declared.Outcome.the-variants.{Run, NoRun}
 use Rattle.run_line.specs.Answer.{second, dayRunCases}
 use Rattle.run_line.proofs.Small.{step-small}
 use Rattle.run_line.proofs.Answers.{bad, no-date, on-date}
@@ -73,7 +73,7 @@ returns-3 c =
     let d = k .d .given .0 .0 in
     let e : toZ w64 (ofZ w64 d) ≡ d = toZ-ofZ (search needs) in
     let p = on-date (now (s a .args .s)) (now (s a .args .buffer)) (l a) (is-line a) d (sym (a .day-of .ensures) ∙ k .d .given .1) in (
-      w .day-run .ensures .0 ∙ (ap (λ (z : ℤ). refusedOr Refused (dayRunCases z (l a .count) (l a .step) (length (now (s a .args .buffer)))) (Run (recordLength * l a .count))) e ∙ p .0),
+      w .day-run .ensures .0 ∙ (ap (λ (z : ℤ). refusedOr NoRun (dayRunCases z (l a .count) (l a .step) (length (now (s a .args .buffer)))) (Run (recordLength * l a .count))) e ∙ p .0),
       w .day-run .ensures .1 ∙ (ap (λ (z : ℤ). runWritten z 0 (l a .count) (l a .step * second) (now (s a .args .buffer))) e ∙ p .1),
     )
 

@@ -7,11 +7,11 @@ use denote.Ref.{now}
 use lib.IntN.{ℤ}
 use lib.ListN.{length}
 use mir.Facts.{toZ-ofZ}
-use Rattle.calendar.specs.Refusals.{Case}
-use Rattle.calendar.proofs.FirstRefusal.{none-answered, refused-first, first-none}
+use Rattle.instants.specs.Refusals.{Case}
+use Rattle.instants.proofs.FirstRefusal.{none-answered, refused-first, first-none}
 use Rattle.run.specs.Run.{runRefusal, runWritten}
 use Rattle.run.proofs.Refusals.{not-refused}
-use Rattle.run_line.specs.declared.Outcome.the-variants.{Refused}
+use Rattle.run_line.specs.declared.Outcome.the-variants.{NoRun}
 use Rattle.run_line.specs.Answer.{second, dayRunCases}
 use borrow.Author.Needs.{needs}
 use Rattle.run_line.proofs.day_run.Statement.{statement}
@@ -43,7 +43,7 @@ returns : tie.Need-returns
 unfolding runRefusal
 returns c =
     let w = c .before .before .before in
-    (ap Refused (says w) ∙ sym (refused-first Refused (cases w) _ (λ e. c .if1 .taken (says w ∙ e))), fills w)
+    (ap NoRun (says w) ∙ sym (refused-first NoRun (cases w) _ (λ e. c .if1 .taken (says w ∙ e))), fills w)
 
 mul-t11 : tie.Need-mul-t11
 mul-t11 c =
@@ -57,7 +57,7 @@ returns-2 : tie.Need-returns-2
 unfolding runRefusal
 returns-2 c =
     let w = c .before .before .before in
-    (sym (none-answered Refused (cases w) _ (first-none (cases w) tt (sym (says w) ∙ c .if1 .left))), fills w)
+    (sym (none-answered NoRun (cases w) _ (first-none (cases w) tt (sym (says w) ∙ c .if1 .left))), fills w)
 
 pub day-run-spec : {M : Type 1} → statement M
 day-run-spec =

@@ -3,7 +3,7 @@ use native.Mathlib.Nat.{le-trans}
 use borrow.Author.Needs.{needs}
 use lib.Dec.{lit≤}
 use mir.Facts.{toZ-ofZ}
-use Rattle.calendar.proofs.Index.{accepted-at}
+use Rattle.instants.proofs.Accepted.{accepted-at}
 use Rattle.tide.specs.Tidal.{argumentsAt}
 use Rattle.tide.proofs.Signed.{accepted-size, size-in-float}
 use Rattle.tide.proofs.arguments_at.Statement.{statement}

@@ -2,9 +2,9 @@
 use mathlib.Core.Path.{_∙_, ap, sym}
 use borrow.Author.Needs.{needs}
 use mir.Facts.{toZ-ofZ}
-use Rattle.calendar.specs.declared.Acceptance.the-variants.{Accepted}
-use Rattle.calendar.proofs.Index.{accepted-at, refused-too, answered-too}
-use Rattle.tide.specs.declared.Answer.the-variants.{Refused}
+use Rattle.instants.specs.declared.Acceptance.the-variants.{Accepted}
+use Rattle.instants.proofs.Accepted.{accepted-at, refused-too, answered-too}
+use Rattle.tide.specs.declared.TideAnswer.the-variants.{NoTide}
 use Rattle.tide.specs.Tidal.{answerOf, tideOf}
 use Rattle.tide.proofs.frequency_and_phase.Statement.{statement}
 use Rattle.tide.proofs.frequency_and_phase.Tie as tie
@@ -33,13 +33,13 @@ returns c =
     let k = c .before .before .before .before in
     let e = toZ-ofZ (k .before .fits .day) in
     rw (c .answer-from .ensures, c .before .arguments-at .ensures, e)
-    (answered-too Refused _ _ _ (rw e at (sym (k .accept .ensures) ∙ c .before .before .enum-told .given .1)))
+    (answered-too NoTide _ _ _ (rw e at (sym (k .accept .ensures) ∙ c .before .before .enum-told .given .1)))
 
 returns-2 : tie.Need-returns-2
 unfolding tideOf
 returns-2 c =
     let k = c .before .before .before in
-    refused-too Refused _ _ _ (rw (toZ-ofZ (k .before .fits .day)) at (sym (k .accept .ensures) ∙ c .before .n .given .1))
+    refused-too NoTide _ _ _ (rw (toZ-ofZ (k .before .fits .day)) at (sym (k .accept .ensures) ∙ c .before .n .given .1))
 
 pub frequency-and-phase-spec : {M : Type 1} → statement M
 frequency-and-phase-spec =

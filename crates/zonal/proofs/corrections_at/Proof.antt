@@ -10,7 +10,7 @@ use mir.Syntax.{w32}
 use mir.Val.{toZ, ofZ}
 use mir.Facts.{toZ-ofZ}
 use borrow.Author.Needs.{needs}
-use Rattle.arguments.specs.Ours.{moment}
+use Rattle.instants.specs.Moments.{moment}
 use Rattle.zonal.specs.declared.Sums.{Sums}
 use Rattle.zonal.specs.Exact.{ut1Sum, lodSum, rateSum}
 use Rattle.zonal.specs.Ours.{rowSine, rowCosine, rounded, corrections, correctionsAt}

@@ -5,10 +5,10 @@ use native.Mathlib.Omega.{arith}
 use lib.IntN.{ℤ}
 use mir.Facts.{toZ-ofZ}
 use borrow.Author.Needs.{needs}
-use Rattle.calendar.specs.declared.Acceptance.the-variants.{Accepted}
-use Rattle.calendar.specs.Instants.{acceptance}
-use Rattle.calendar.proofs.Index.{AcceptedAt, accepted-at, refused-too, answered-too}
-use Rattle.zonal.specs.declared.ZonalAnswer.the-variants.{Refused}
+use Rattle.instants.specs.declared.Acceptance.the-variants.{Accepted}
+use Rattle.instants.specs.Instants.{acceptance}
+use Rattle.instants.proofs.Accepted.{AcceptedAt, accepted-at, refused-too, answered-too}
+use Rattle.zonal.specs.declared.ZonalAnswer.the-variants.{NoZonal}
 use Rattle.zonal.specs.Ours.{zonalOf}
 use Rattle.zonal.proofs.zonal_of.Statement.{statement}
 use Rattle.zonal.proofs.zonal_of.Tie as tie
@@ -36,11 +36,11 @@ corrections-at-requires c κs = (omega (arith, known c .high), known c .less)
 
 returns : tie.Need-returns
 unfolding zonalOf
-returns c = refused-too Refused _ _ _ (sym (says (c .before .before .before)) ∙ c .before .n .given .1)
+returns c = refused-too NoZonal _ _ _ (sym (says (c .before .before .before)) ∙ c .before .n .given .1)
 
 returns-2 : tie.Need-returns-2
 unfolding zonalOf
-returns-2 c = rw (c .corrections-at .ensures, ← known (c .before) .index) (answered-too Refused _ _ _ (found (c .before)))
+returns-2 c = rw (c .corrections-at .ensures, ← known (c .before) .index) (answered-too NoZonal _ _ _ (found (c .before)))
 
 pub zonal-of-spec : {M : Type 1} → statement M
 zonal-of-spec =

@@ -1,6 +1,6 @@
 -- `enfysgar::calendar_calls::enfys_date_refusal` meets its contract. Assumes nothing.
 use mathlib.Core.Path.{_∙_, ap, sym}
-use Rattle.calendar.specs.Dates.{dayRefusalOf}
+use Rattle.calendar.specs.Dates.{dateRefusalOf}
 use borrow.Author.Needs.{needs}
 use Rattle.enfysgar.proofs.calendar_calls.enfys_date_refusal.Statement.{statement}
 use Rattle.enfysgar.proofs.calendar_calls.enfys_date_refusal.Tie as tie
@@ -15,10 +15,10 @@ enum-known-n : tie.Need-enum-known-n
 enum-known-n c = search needs
 
 returns : tie.Need-returns
-returns c = ap dayRefusalOf (sym (c .enum-told .given .1) ∙ c .before .before .day-of .ensures)
+returns c = ap dateRefusalOf (sym (c .enum-told .given .1) ∙ c .before .before .day-of .ensures)
 
 returns-2 : tie.Need-returns-2
-returns-2 c = ap dayRefusalOf (sym (c .before .n .given .1) ∙ c .before .before .before .day-of .ensures)
+returns-2 c = ap dateRefusalOf (sym (c .before .n .given .1) ∙ c .before .before .before .day-of .ensures)
 
 pub enfys-date-refusal-spec : {M : Type 1} → statement M
 enfys-date-refusal-spec =

@@ -2,7 +2,7 @@
 use mathlib.Core.Path.{_∙_, ap, sym}
 use mir.Facts.{toZ-ofZ}
 use lib.IntN.{ℤ}
-use Rattle.calendar.specs.Dates.{dateOf, dateRefusalOf}
+use Rattle.calendar.specs.Dates.{dateOf, dayRefusalOf}
 use borrow.Author.Needs.{needs}
 use Rattle.enfysgar.proofs.calendar_calls.enfys_day_refusal.Statement.{statement}
 use Rattle.enfysgar.proofs.calendar_calls.enfys_day_refusal.Tie as tie
@@ -17,10 +17,10 @@ enum-known-n : tie.Need-enum-known-n
 enum-known-n c = search needs
 
 returns : tie.Need-returns
-returns c = ap dateRefusalOf (sym (c .enum-told .given .1) ∙ (c .before .before .date-of .ensures ∙ ap (λ (d : ℤ). dateOf d) (toZ-ofZ (c .before .before .before .fits .day))))
+returns c = ap dayRefusalOf (sym (c .enum-told .given .1) ∙ (c .before .before .date-of .ensures ∙ ap (λ (d : ℤ). dateOf d) (toZ-ofZ (c .before .before .before .fits .day))))
 
 returns-2 : tie.Need-returns-2
-returns-2 c = ap dateRefusalOf (sym (c .before .n .given .1) ∙ (c .before .before .before .date-of .ensures ∙ ap (λ (d : ℤ). dateOf d) (toZ-ofZ (c .before .before .before .before .fits .day))))
+returns-2 c = ap dayRefusalOf (sym (c .before .n .given .1) ∙ (c .before .before .before .date-of .ensures ∙ ap (λ (d : ℤ). dateOf d) (toZ-ofZ (c .before .before .before .before .fits .day))))
 
 pub enfys-day-refusal-spec : {M : Type 1} → statement M
 enfys-day-refusal-spec =

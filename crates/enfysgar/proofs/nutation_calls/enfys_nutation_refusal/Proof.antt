@@ -2,7 +2,7 @@
 use mathlib.Core.Path.{_∙_, ap, sym}
 use mir.Facts.{toZ-ofZ}
 use lib.IntN.{ℤ}
-use Rattle.nutation.specs.Ours.{nutationOf, refusalOf}
+use Rattle.nutation.specs.Ours.{nutationOf, nutationRefusalOf}
 use borrow.Author.Needs.{needs}
 use Rattle.enfysgar.proofs.nutation_calls.enfys_nutation_refusal.Statement.{statement}
 use Rattle.enfysgar.proofs.nutation_calls.enfys_nutation_refusal.Tie as tie
@@ -17,10 +17,10 @@ enum-known-n : tie.Need-enum-known-n
 enum-known-n c = search needs
 
 returns : tie.Need-returns
-returns c = ap refusalOf (sym (c .enum-told .given .1) ∙ (c .before .before .nutation-of .ensures ∙ ap (λ (d : ℤ). nutationOf d (c .before .before .before .args .micros)) (toZ-ofZ (c .before .before .before .fits .day))))
+returns c = ap nutationRefusalOf (sym (c .enum-told .given .1) ∙ (c .before .before .nutation-of .ensures ∙ ap (λ (d : ℤ). nutationOf d (c .before .before .before .args .micros)) (toZ-ofZ (c .before .before .before .fits .day))))
 
 returns-2 : tie.Need-returns-2
-returns-2 c = ap refusalOf (sym (c .before .n .given .1) ∙ (c .before .before .before .nutation-of .ensures ∙ ap (λ (d : ℤ). nutationOf d (c .before .before .before .before .args .micros)) (toZ-ofZ (c .before .before .before .before .fits .day))))
+returns-2 c = ap nutationRefusalOf (sym (c .before .n .given .1) ∙ (c .before .before .before .nutation-of .ensures ∙ ap (λ (d : ℤ). nutationOf d (c .before .before .before .before .args .micros)) (toZ-ofZ (c .before .before .before .before .fits .day))))
 
 pub enfys-nutation-refusal-spec : {M : Type 1} → statement M
 enfys-nutation-refusal-spec =

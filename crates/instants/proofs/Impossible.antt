@@ -4,5 +4,5 @@ use mathlib.Core.Path.{_≡_}
 use native.Mathlib.Omega.{arith}
 
 -- `cc` proves the premise from an equation between two different constructors
-pub no-case : {A : Type 0} → _≡_ {A = ℕ} 0 1 → A
-no-case e = let v : ⊥ = omega arith in absurd v
+pub impossible : {A : Type 0} → _≡_ {A = ℕ} 0 1 → A
+impossible e = let v : ⊥ = omega arith in absurd v

@@ -1,16 +1,16 @@
--- `calendar::accept` meets its contract. Assumes nothing.
-use Rattle.calendar.proofs.Index.{HasIndex, index-outside, index-at}
-use Rattle.calendar.specs.Instants.{acceptance}
-use Rattle.calendar.specs.Inner.{dayIndex}
+-- `instants::accept` meets its contract. Assumes nothing.
+use Rattle.instants.proofs.Accepted.{HasIndex, index-outside, index-at}
+use Rattle.instants.specs.Instants.{acceptance}
+use Rattle.instants.specs.Inner.{indexAnswer}
 use borrow.Author.Tests.{le-leb, lt-leb}
 use mir.Facts.{toZ-ofZ}
 use mathlib.Core.Path.{_≡_, _∙_, ap, sym}
 use borrow.Author.Needs.{needs}
-use Rattle.calendar.proofs.accept.Statement.{statement}
-use Rattle.calendar.proofs.accept.Tie as tie
+use Rattle.instants.proofs.accept.Statement.{statement}
+use Rattle.instants.proofs.accept.Tie as tie
 
-abbrev says : (c : tie.After-day-index) → c .day-index .result ≡ dayIndex (c .before .args .day)
-says c = c .day-index .ensures ∙ ap dayIndex (toZ-ofZ (c .before .fits .day))
+abbrev says : (c : tie.After-day-index) → c .day-index .result ≡ indexAnswer (c .before .args .day)
+says c = c .day-index .ensures ∙ ap indexAnswer (toZ-ofZ (c .before .fits .day))
 
 known : (c : tie.After-known-told) → HasIndex (c .before .before .before .before .args .day) (c .before .n .given .0 .0)
 known c = index-at _ _ (sym (says (c .before .before .before)) ∙ c .before .n .given .1)

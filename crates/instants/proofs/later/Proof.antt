@@ -1,4 +1,4 @@
--- `run::later` meets its contract. Assumes nothing.
+-- `instants::later` meets its contract. Assumes nothing.
 use Prim.Native.Nat.{_+_, _/_, _^_, _<_}
 use native.Mathlib.Omega.{arith}
 use mathlib.Core.Path.{_≡_, _∙_, ap}
@@ -6,15 +6,14 @@ use lib.IntN.{ℤ, _+ℤ_}
 use mir.Syntax.{w64}
 use mir.Val.{SFits, toZ, ofZ}
 use mir.Facts.{toZ-ofZ, toZ-pos}
-use Rattle.calendar.specs.Limits.{dayMicros}
-use Rattle.calendar.specs.Instants.{instant}
-use Rattle.run.specs.Run.{laterDay, laterMicros}
-use Rattle.run.proofs.Instants.{sum-fits, day-fits}
+use Rattle.instants.specs.Limits.{dayMicros}
+use Rattle.instants.specs.Instants.{instant, laterDay, laterMicros}
+use Rattle.instants.proofs.LaterInstants.{sum-fits, day-fits}
 use borrow.Author.Needs.{needs}
-use Rattle.run.proofs.later.Statement.{statement}
-use Rattle.run.proofs.later.Tie as tie
+use Rattle.instants.proofs.later.Statement.{statement}
+use Rattle.instants.proofs.later.Tie as tie
 
-small : (c : tie.Start) → c .args .micros + c .args .t < 2 ^ 62
+small : (c : tie.Start) → c .args .micros + c .args .t < 2 ^ 63
 small c = sum-fits (c .args .day) _ _ (c .pre .accepted) (c .pre .few)
 
 fits : (c : tie.Start) → SFits w64 (laterDay (c .args .day) (c .args .micros) (c .args .t))

@@ -1,5 +1,5 @@
--- The instants of a run. Assumes nothing.
-use Prim.Native.Nat.{ℕ, _+_, _*_, _/_, _^_, _≤_, _<_}
+-- Later instants: which are accepted, and that the sums of the code fit. Assumes nothing.
+use Prim.Native.Nat.{ℕ, _+_, _/_, _^_, _≤_, _<_}
 use mathlib.Core.Path.{_≡_, refl, _∙_}
 use mathlib.Core.Bool.{Bool, true, false, _||_, true≢false}
 use native.Mathlib.Omega.{arith}
@@ -10,10 +10,9 @@ use mir.Syntax.{w64}
 use mir.Val.{SFits}
 use Rattle.algebra.proofs.Order.{_≼_, ≼-refl, ≼-trans, ≼-add, le-plus, pos-le, abs-add}
 use Rattle.algebra.proofs.Fits.{small-fits}
-use Rattle.calendar.specs.Limits.{firstDay, lastDay, dayMicros}
-use Rattle.calendar.specs.Instants.{outside, indexAt, IsAccepted}
-use Rattle.calendar.proofs.Index.{AcceptedAt, accepted-at, accepted}
-use Rattle.run.specs.Run.{mostRecords, laterDay, laterMicros}
+use Rattle.instants.specs.Limits.{firstDay, lastDay, dayMicros, indexOffset}
+use Rattle.instants.specs.Instants.{outside, dayIndex, IsAccepted, laterDay, laterMicros}
+use Rattle.instants.proofs.Accepted.{AcceptedAt, accepted-at, accepted}
 
 -- ---- the order of day numbers, as the tests have it
 
@@ -42,23 +41,23 @@ past-earlier d p q h e = not-less lastDay (d +ℤ pos p) (≼-trans (≼-add (�
 
 -- ---- later instants
 
-size : (d : ℤ) (i : ℕ) → d ≡ pos i -ℤ pos 94553 → natAbs d ≤ i + 94553
-size d i e = rw e (abs-add (pos i) (negℤ (pos 94553)))
+size : (d : ℤ) (i : ℕ) → d ≡ pos i -ℤ pos indexOffset → natAbs d ≤ i + indexOffset
+size d i e = rw e (abs-add (pos i) (negℤ (pos indexOffset)))
 
 module _ (d : ℤ) (m t : ℕ) (a : IsAccepted d m) where
-  inside : AcceptedAt d m (indexAt d)
-  inside = accepted-at d m (indexAt d) a
+  inside : AcceptedAt d m (dayIndex d)
+  inside = accepted-at d m (dayIndex d) a
 
   -- a later instant is accepted unless it is past the last day
   pub later-accepted : ltZ lastDay (laterDay d m t) ≡ false → IsAccepted (laterDay d m t) (laterMicros m t)
   later-accepted e = accepted _ _ (outside-later d _ (inside .inside) ∙ e) (omega arith)
 
   -- the sums of the code fit
-  pub sum-fits : t ≤ mostRecords * dayMicros → m + t < 2 ^ 62
+  pub sum-fits : t < 2 ^ 62 → m + t < 2 ^ 63
   sum-fits h = omega (arith, inside .less)
 
-  pub day-fits : t ≤ mostRecords * dayMicros → SFits w64 (laterDay d m t)
+  pub day-fits : t < 2 ^ 62 → SFits w64 (laterDay d m t)
   day-fits h =
-      let s : m + t < 2 ^ 62 = sum-fits h in
-      let n : natAbs d ≤ indexAt d + 94553 = size d (indexAt d) (inside .is) in
+      let s : m + t < 2 ^ 63 = sum-fits h in
+      let n : natAbs d ≤ dayIndex d + indexOffset = size d (dayIndex d) (inside .is) in
       small-fits (laterDay d m t) (omega (arith, abs-add d (pos ((m + t) / dayMicros)), inside .high))

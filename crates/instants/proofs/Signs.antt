@@ -10,7 +10,7 @@ use lib.IntN.{ℤ, pos, negsuc, subℕ, _+ℤ_, _-ℤ_}
 use mir.Syntax.{w64}
 use mir.Val.{SFits, toZ, ofZ}
 use mir.Facts.{toZ-ofZ}
-use Rattle.calendar.specs.Limits.{firstDay, lastDay}
+use Rattle.instants.specs.Limits.{firstDay, lastDay, indexOffset}
 
 by : (t : Bool) (a b : ℕ) → a < 2 ^ 62 → b < 2 ^ 62 → SFits w64 (cond t (negsuc (b - suc a)) (pos (a - b)))
 by true a b h k = record { sfits = omega arith }
@@ -31,26 +31,26 @@ pub record Between (z : ℤ) : Type 0 where
   pub it : ℕ
   pub low : firstIndex ≤ it
   pub high : it ≤ lastIndex
-  pub is : z ≡ pos it -ℤ pos 94553
-  pub up : z +ℤ pos 94553 ≡ pos it
+  pub is : z ≡ pos it -ℤ pos indexOffset
+  pub up : z +ℤ pos indexOffset ≡ pos it
 
 pub between : (z : ℤ) → ltZ z firstDay ≡ false → ltZ lastDay z ≡ false → Between z
 between (pos n) p q =
     let l : 15020 ≤ n = ltb-false n 15020 p in
     let h : n ≤ 88433 = ltb-false 88433 n q in
-    let e : n ≡ n + 94553 - 94553 = omega arith in
-    record { it = n + 94553; low = omega arith; high = omega arith; is = simp (le-ltb (n + 94553) 94553 (omega arith)) (ap pos e); up = refl }
+    let e : n ≡ n + indexOffset - indexOffset = omega arith in
+    record { it = n + indexOffset; low = omega arith; high = omega arith; is = simp (le-ltb (n + indexOffset) indexOffset (omega arith)) (ap pos e); up = refl }
 between (negsuc n) p q = absurd (true≢false p)
 
 module _ (z : ℤ) (f : SFits w64 z) (b : Between z) where
-  pub biased : toZ w64 (ofZ w64 z) +ℤ pos 94553 ≡ pos (b .it)
+  pub biased : toZ w64 (ofZ w64 z) +ℤ pos indexOffset ≡ pos (b .it)
   biased = rw (toZ-ofZ f) (b .up)
 
   biased-fits : SFits w64 (pos (b .it))
   biased-fits = record { sfits = omega (arith, b .high) }
 
-  pub biased-sum : SFits w64 (toZ w64 (ofZ w64 z) +ℤ pos 94553)
+  pub biased-sum : SFits w64 (toZ w64 (ofZ w64 z) +ℤ pos indexOffset)
   biased-sum = rw biased biased-fits
 
-  pub biased-read : toZ w64 (ofZ w64 (toZ w64 (ofZ w64 z) +ℤ pos 94553)) ≡ pos (b .it)
+  pub biased-read : toZ w64 (ofZ w64 (toZ w64 (ofZ w64 z) +ℤ pos indexOffset)) ≡ pos (b .it)
   biased-read = rw biased (toZ-ofZ biased-fits)

@@ -6,7 +6,7 @@ use mathlib.Core.List.{List, [], _∷_}
 use native.Mathlib.Omega.{arith}
 use lib.Dec.{T, ltb}
 use borrow.Author.Tests.{ltb-true}
-use Rattle.calendar.specs.Refusals.{Case, refusedOr, firstRefusal}
+use Rattle.instants.specs.Refusals.{Case, refusedOr, firstRefusal}
 
 -- no case applies
 abbrev pub NoneApplies : List Case → Type 0

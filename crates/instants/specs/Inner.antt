@@ -1,0 +1,21 @@
+-- What only the contracts of the code's own functions cite.
+use Prim.Native.Nat.{ℕ, _^_, _<_}
+use mathlib.Core.Bool.{cond}
+use lib.IntN.{ℤ}
+use Rattle.instants.specs.Instants.{instant, outside, dayIndex, IsAccepted, laterDay, laterMicros}
+use Rattle.instants.specs.declared.Instant.{Instant}
+use Rattle.instants.specs.declared.IndexAnswer.{IndexAnswer}
+use Rattle.instants.specs.declared.IndexAnswer.the-variants.{AtIndex, NoIndex}
+
+-- a day number's index, or that it has none in range
+unfoldable pub indexAnswer : ℤ → IndexAnswer
+indexAnswer z = cond (outside z) NoIndex (AtIndex (dayIndex z))
+
+-- the instant t microseconds after the instant d, m
+abbrev pub laterInstant : ℤ → ℕ → ℕ → Instant
+laterInstant d m t = instant (laterDay d m t) (laterMicros m t)
+
+-- the instant d, m is accepted, and t microseconds are few enough that the sums fit
+pub record LaterBounds (d : ℤ) (m t : ℕ) : Type 0 where
+  pub accepted : IsAccepted d m
+  pub few : t < 2 ^ 62
