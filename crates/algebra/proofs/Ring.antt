@@ -8,7 +8,7 @@ use Prim.Native.Nat.{ℕ, zero, suc, _+_, _*_, _^_}
 use lib.Dec.{T, eqb}
 use lib.IntN.{ℤ, pos, negsuc, negℤ, _+ℤ_, _*ℤ_, pow, natAbs}
 use Rattle.algebra.proofs.Integers.{pow-pos}
-use Rattle.algebra.proofs.Polynomial.{Expr, var, con, _⊕_, _⊗_, neg, _↑_, Env, get, norm, eqP, solve}
+use Rattle.algebra.proofs.Polynomial.{Expr, var, con, _⊕_, _⊗_, neg, _↑_, Env, get, ⟦_⟧, norm, eqP, solve}
 pub use Rattle.algebra.proofs.Polynomial.{end, _▸_}
 
 -- ---- an expression found from the integer that it stands for: `search quote` finds it
