@@ -16,7 +16,7 @@ use Rattle.algebra.proofs.Floor.{near-floor, near-rounded}
 use Rattle.algebra.proofs.Turns.{Turns, turns-of, turns-wide, turns-add, turns-removed}
 use Rattle.sine.specs.Exact.{S, sineDen, wholeTurn, exactSine, exactCosine}
 use Rattle.sine.specs.Ours.{alternating, sineQuarter, quarterTurn, ourSine, ourCosine}
-use Rattle.sine.proofs.Series.{signedS, S-odd, S-fine, S-moves, sineDen-fine, slope}
+use Rattle.sine.proofs.Angles.{signedS, S-odd, S-fine, S-moves, sineDen-fine, slope}
 use Rattle.sine.proofs.Fold.{Fold, fold-is, fold-scale, fold-small, fold-near, odd-turn}
 use Rattle.sine.proofs.Quarter.{routineDistance, quarter-near}
 

@@ -9,13 +9,13 @@ use native.Mathlib.Omega.{arith}
 use lib.Dec.{T, lit≤}
 use lib.IntN.{ℤ, pos, _-ℤ_, _*ℤ_, pow}
 use Rattle.algebra.specs.Near.{Near}
-use Rattle.algebra.specs.Series.{factorial, series}
+use Rattle.sine.specs.Series.{factorial, series}
 use Rattle.algebra.proofs.Integers.{pow-pos}
 use Rattle.algebra.proofs.Polynomial.{Expr, var, _⊖_, _⊗_, _↑_, #, solve}
 use Rattle.algebra.proofs.Ring.{end, _▸_, _▹_, ring, quote, ringN, quoteN}
 use Rattle.algebra.proofs.Near.{near-as, near-trans, near-scale}
 use Rattle.algebra.proofs.Floor.{near-floor}
-use Rattle.algebra.proofs.Series.{seriesE}
+use Rattle.sine.proofs.Series.{seriesE}
 use Rattle.sine.specs.Exact.{turnNum, S, sineDen}
 use Rattle.sine.specs.Ours.{firstConstant, otherConstants, alternating, sineQuarter}
 use Rattle.sine.proofs.Nested.{exactNested, power, error, constantsTest, alternating-near}

@@ -13,7 +13,7 @@ use Rattle.instants.specs.Moments.{sinceJ2000, century, moment}
 use Rattle.arguments.specs.Exact.{turnParts, exactAngle}
 use Rattle.arguments.specs.Ours.{ourAngle}
 use Rattle.arguments.proofs.Distance.{angleDistance, angle-near, our-angle-less, exact-angle-less}
-use Rattle.sine.proofs.Series.{sineDen-positive}
+use Rattle.sine.proofs.Angles.{sineDen-positive}
 use Rattle.sine.proofs.Distance.{SineNear, sineDistance, sine-near, cosine-near, rounded-near}
 use Rattle.zonal.specs.declared.Corrections.{Corrections}
 use Rattle.zonal.specs.Exact.{rows, coefficient, denominator, exactRowSine, exactRowCosine}

@@ -1,4 +1,4 @@
-pub mod Signed
+pub mod Coefficients
 pub mod Weighted
 pub mod Distance
 pub mod Sizes

@@ -12,7 +12,7 @@ use mir.Val.{SFits}
 use Rattle.algebra.proofs.Order.{abs-mul, abs-add}
 use Rattle.instants.specs.Moments.{moment}
 use Rattle.arguments.specs.Ours.{ourAngle}
-use Rattle.arguments.proofs.Rows.{coefficient-small}
+use Rattle.zonal.proofs.Coefficients.{coefficient-small}
 use Rattle.sine.proofs.Sizes as sizes
 use Rattle.sine.proofs.Sizes.{sineMost}
 use Rattle.zonal.specs.declared.Corrections.{Corrections}

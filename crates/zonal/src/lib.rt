@@ -8,7 +8,8 @@ ghost use Prim.Native.Nat.{_≤_, _<_};
 ghost use lib.IntN.{natAbs, _+ℤ_, _*ℤ_};
 ghost use Rattle.instants.specs.Limits.{dayMicros, daysCovered};
 ghost use Rattle.instants.specs.Moments.{latest};
-ghost use Rattle.arguments.specs.Table.{multipliers, coefficients};
+ghost use Rattle.arguments.specs.Table.{multipliers};
+ghost use Rattle.zonal.specs.Coefficients.{coefficients};
 ghost use Rattle.zonal.specs.Ours as ours;
 ghost use Rattle.zonal.specs.Inner.{term, productMost, RowBounds, sumsAt};
 

@@ -12,7 +12,7 @@ use mir.Facts.{toZ-ofZ}
 use Rattle.zonal.specs.Ours.{rounded}
 use Rattle.zonal.specs.Inner.{productMost}
 use Rattle.zonal.proofs.Sizes.{rounded-fits}
-use Rattle.zonal.proofs.Signed.{R, Is, fits, back, plus}
+use Rattle.algebra.proofs.Bits.{readBack, InBits, bits-fit, bits-back, bits-plus}
 use Rattle.zonal.proofs.rounded.Statement.{statement}
 use Rattle.zonal.proofs.rounded.Tie as tie
 
@@ -20,21 +20,21 @@ wide : {z : ℤ} → SFits w32 z → SFits w64 z
 wide h = record { sfits = lt-of-lt-of-le (h .sfits) (lit≤ tt) }
 
 module _ (f v : ℤ) (hf : SFits w64 f) (hv : SFits w64 v) (h : natAbs (f *ℤ v) ≤ productMost) where
-  product : Is (R f *ℤ R v) (f *ℤ v) productMost
+  product : InBits (readBack f *ℤ readBack v) (f *ℤ v) productMost
   product = record { is = ap₂ _*ℤ_ (toZ-ofZ hf) (toZ-ofZ hv); most = h; room = lit≤ tt }
 
-  half : Is (R (R f *ℤ R v) +ℤ pos (2 ^ 30)) (f *ℤ v +ℤ pos (2 ^ 30)) (productMost + 2 ^ 30)
-  half = plus (back product) (record { is = refl; most = le-refl (2 ^ 30); room = lit≤ tt }) (lit≤ tt)
+  half : InBits (readBack (readBack f *ℤ readBack v) +ℤ pos (2 ^ 30)) (f *ℤ v +ℤ pos (2 ^ 30)) (productMost + 2 ^ 30)
+  half = bits-plus (bits-back product) (record { is = refl; most = le-refl (2 ^ 30); room = lit≤ tt }) (lit≤ tt)
 
   -- what is read back of the quotient
-  quotient : R (shrZ (R (R (R f *ℤ R v) +ℤ pos (2 ^ 30))) (2 ^ 31)) ≡ rounded f v
-  quotient = ap (λ (z : ℤ). R (shrZ z (2 ^ 31))) (back half .is) ∙ toZ-ofZ {w = w64} (wide (rounded-fits f v h))
+  quotient : readBack (shrZ (readBack (readBack (readBack f *ℤ readBack v) +ℤ pos (2 ^ 30))) (2 ^ 31)) ≡ rounded f v
+  quotient = ap (λ (z : ℤ). readBack (shrZ z (2 ^ 31))) (bits-back half .is) ∙ toZ-ofZ {w = w64} (wide (rounded-fits f v h))
 
 mul-result : tie.Need-mul-result
-mul-result c = fits (product (c .args .f) (c .args .v) (c .fits .f) (c .fits .v) (c .pre))
+mul-result c = bits-fit (product (c .args .f) (c .args .v) (c .fits .f) (c .fits .v) (c .pre))
 
 add-result : tie.Need-add-result
-add-result c = fits (half (c .args .f) (c .args .v) (c .fits .f) (c .fits .v) (c .pre))
+add-result c = bits-fit (half (c .args .f) (c .args .v) (c .fits .f) (c .fits .v) (c .pre))
 
 cast-result : tie.Need-cast-result
 cast-result c = subst (λ (z : ℤ). SFits w32 z) (sym (quotient (c .args .f) (c .args .v) (c .fits .f) (c .fits .v) (c .pre))) (rounded-fits (c .args .f) (c .args .v) (c .pre))
