@@ -1,5 +1,5 @@
--- The series at an angle of either sign: it is odd, it is the same at a finer division of the turn, and it moves at most 16 times as fast as
--- its angle, in turns. Its denominator is above 0.
+-- The series at an angle of either sign, z of Q parts of a turn: it is odd, it is the same at a finer division of the turn, and up to a quarter
+-- turn it moves at most 16 times as fast as its angle, in turns. Each is the series' own law at x = z / Q turns. Its denominator is above 0.
 -- Assumes nothing.
 use mathlib.Core.Path.{_≡_, sym, _∙_, ap, ap₂}
 use Prim.Native.Nat.{ℕ, _*_, _^_, _≤_, _<_}
@@ -70,8 +70,9 @@ unfolding signedS sineDen
 S-moves Q e y z hy hz n = near-as (near-scale (pos Q) (series-moves (Q * u) (turnNum * e) (y *ℤ pos turnNum) (z *ℤ pos turnNum) (small y hy) (small z hz) angle)) (side y) (side z)
     (le-trans (bound Q slopeSum ((Q * u) ^ 22) turnNum e u (factorial 23) (50 ^ 23) (lit≤ tt)) (le-of-eq (ap (λ (k : ℕ). slope * e * k) (sym (den Q u (factorial 23))))))
   where
+    -- a fiftieth of turnDen
     u : ℕ
-    u = 20000000000000000000000
+    u = 2 * 10 ^ 22
 
     den : (Q u f : ℕ) → (Q * (50 * u)) ^ 23 * f ≡ 50 ^ 23 * ((Q * u) ^ 22 * (Q * u)) * f
     den Q u f = ringN (Q ▹ u ▹ f ▹ end) (search quoteN depth 13) tt

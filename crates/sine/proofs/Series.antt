@@ -1,4 +1,5 @@
--- The sine's series: it is odd, it is the same fraction over a larger denominator, and it moves slowly up to 79/50, which is just above pi/2.
+-- The sine's series at X / D: it is odd, it is the same fraction over a larger denominator, and it moves slowly up to 79/50, which is just above
+-- pi/2. The first two are equations of polynomials. For the last, a power moves by at most its slope at the bound, and the terms' slopes are added up.
 -- Assumes nothing.
 use mathlib.Core.Path.{_≡_, refl, sym, _∙_, ap, ap₂}
 use Prim.Native.Nat.{ℕ, zero, suc, _+_, _*_, _-_, _/_, _^_, _≤_}
@@ -37,14 +38,14 @@ unfolding pow one
 abs-pow x zero = sym (N.pow-zero (natAbs x))
 abs-pow x (suc n) = abs-mul (pow x n) x ∙ ap (λ (k : ℕ). k * natAbs x) (abs-pow x n) ∙ sym (N.pow-suc (natAbs x) n)
 
-pub near-pow : (R : ℕ) {x y : ℤ} {e : ℕ} → natAbs x ≤ R → natAbs y ≤ R → Near x y e → (n : ℕ) → Near (pow x (suc n)) (pow y (suc n)) (suc n * R ^ n * e)
+pub near-pow : (B : ℕ) {x y : ℤ} {e : ℕ} → natAbs x ≤ B → natAbs y ≤ B → Near x y e → (n : ℕ) → Near (pow x (suc n)) (pow y (suc n)) (suc n * B ^ n * e)
 unfolding pow one
-near-pow R {x} {y} {e} bx by n zero = near-as n (one-mul x) (one-mul y) (le-of-eq (sym (N.one-mul e) ∙ ap (λ (k : ℕ). 1 * k * e) (sym (N.pow-zero R))))
-near-pow R {x} {y} {e} bx by n (suc m) =
-    near-wide (near-mul R (R ^ suc m) by (le-trans (le-of-eq (abs-pow x (suc m))) (N.pow-le-pow-left bx (suc m))) (near-pow R bx by n m) n)
-    (le-of-eq (ap (λ (k : ℕ). suc m * R ^ m * e * R + k * e) (N.pow-suc R m) ∙ alg (R ^ m) m ∙ ap (λ (k : ℕ). suc (suc m) * k * e) (sym (N.pow-suc R m))))
+near-pow B {x} {y} {e} bx by n zero = near-as n (one-mul x) (one-mul y) (le-of-eq (sym (N.one-mul e) ∙ ap (λ (k : ℕ). 1 * k * e) (sym (N.pow-zero B))))
+near-pow B {x} {y} {e} bx by n (suc m) =
+    near-wide (near-mul B (B ^ suc m) by (le-trans (le-of-eq (abs-pow x (suc m))) (N.pow-le-pow-left bx (suc m))) (near-pow B bx by n m) n)
+    (le-of-eq (ap (λ (k : ℕ). suc m * B ^ m * e * B + k * e) (N.pow-suc B m) ∙ alg (B ^ m) m ∙ ap (λ (k : ℕ). suc (suc m) * k * e) (sym (N.pow-suc B m))))
   where
-    alg : (P m : ℕ) → suc m * P * e * R + P * R * e ≡ suc (suc m) * (P * R) * e
+    alg : (P m : ℕ) → suc m * P * e * B + P * B * e ≡ suc (suc m) * (P * B) * e
     alg P m = omega arith
 
 one-pow : (n : ℕ) → 1 ^ n ≡ 1
