@@ -52,6 +52,10 @@ module _ {t : List (List ℤ)} {r j : ℕ} {v p q : ℤ} (b : RowBounds t r j v 
   whole : InBits (readBack v +ℤ readBack pair) (v +ℤ term r j p q) (sumMost + (productBound + productBound))
   whole = bits-plus (bits-given v sumMost (b .sum) (lit≤ tt)) (bits-back both) (lit≤ tt)
 
+-- the entry, as it is seen where the second coefficient is read
+abbrev entry : tie.After-result2 → tie.Start
+entry c = c .before .before
+
 mul-result : tie.Need-mul-result
 mul-result c = search needs
 
@@ -83,16 +87,16 @@ index-2-result-2 : tie.Need-index-2-result-2
 index-2-result-2 c = search needs
 
 mul-result-6 : tie.Need-mul-result-6
-mul-result-6 c = bits-fit (right (c .before .before .pre))
+mul-result-6 c = bits-fit (right (entry c .pre))
 
 add-result-2 : tie.Need-add-result-2
-add-result-2 c = bits-fit (both (c .before .before .pre))
+add-result-2 c = bits-fit (both (entry c .pre))
 
 add-result-3 : tie.Need-add-result-3
-add-result-3 c = bits-fit (whole (c .before .before .pre))
+add-result-3 c = bits-fit (whole (entry c .pre))
 
 returns : tie.Need-returns
-returns c = bits-back (whole (c .before .before .pre)) .is
+returns c = bits-back (whole (entry c .pre)) .is
 
 pub add-row-spec : {M : Type 1} → statement M
 add-row-spec =
