@@ -12,15 +12,16 @@ ghost use Rattle.arguments.specs.Inner.{HalfBounds, Multiplier};
 // A turn, in units of 2^-41 turn.
 const TURN: u64 = 1 << 41;
 
-// What the upper half of a number of 64 bits counts.
+// A unit of the upper half of a number of 64 bits.
 const UPPER: u64 = 1 << 32;
 
 // A century, in units of 2^-24 century.
 const CENTURY: u64 = 1 << 24;
 
-// The same, with six and then the other four of the ten binary places that the constants from the second degree on have more than an angle.
+// A century, and six of the ten binary places that the constants from the second degree on have more than an angle.
 const CENTURY_SIX: u64 = 1 << 30;
 
+// A century, and the other four.
 const CENTURY_FOUR: u64 = 1 << 28;
 
 // The upper half of the product of two numbers of 64 bits, by halves of 32 bits.

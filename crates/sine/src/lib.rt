@@ -6,19 +6,22 @@ ghost use lib.IntN.{pos, negℤ};
 ghost use Rattle.sine.specs.Exact.{halfTurn};
 ghost use Rattle.sine.specs.Ours.{sineQuarter, quarterTurn, ourSine, ourCosine};
 
-// An angle in units of 2^-41 turn: a turn, a half and a quarter.
+// A turn, in units of 2^-41 turn.
 const TURN: u64 = 1 << 41;
 
+// A half turn.
 const HALF: u64 = 1 << 40;
 
+// A quarter turn.
 const QUARTER: u64 = 1 << 39;
 
-// A quarter turn in the parts that its sine is taken at, and the units of an angle that are one of them.
+// A quarter turn again, in the parts that the sine is taken at.
 const PARTS: u64 = 1 << 30;
 
-const UNITS: u64 = 1 << 9;
+// One of these parts, in units of 2^-41 turn.
+const PART: u64 = 1 << 9;
 
-// The squares of those parts that are a unit of 2^-31.
+// A unit of 2^-31 in squares of such a part of one: 2^60 / 2^31.
 const SQUARES: u64 = 1 << 29;
 
 // One, in units of 2^-31.
@@ -77,7 +80,7 @@ fn sine_half(a: u64) -> u64
     requires { ⌜ a ≤ 2 ^ 40 ⌝ }
     ensures { λ r. ⌜ (pos r ≡ halfTurn quarterTurn (2 ^ 41) a) × (r < 2 ^ 32) ⌝ }
 {
-    sine_quarter(reflected(a) / UNITS)
+    sine_quarter(reflected(a) / PART)
 }
 
 // An angle less a half turn, if it is above one.
