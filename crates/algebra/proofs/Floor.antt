@@ -27,7 +27,7 @@ near-shr z d h = near-of (≼-trans (shr-le z d h) (le-plus z (d - 1))) (shr-ge 
 
 -- half of the divisor added first: the quotient is rounded to the nearest
 pub near-rounded : (h : ℕ) (z : ℤ) → 0 < h → Near (shrZ (z +ℤ pos h) (2 * h) *ℤ pos (2 * h)) z h
-near-rounded h z some = go (shrZ (z +ℤ pos h) (2 * h) *ℤ pos (2 * h)) (shr-le (z +ℤ pos h) (2 * h) (omega arith)) (shr-ge (z +ℤ pos h) (2 * h) (omega arith))
+near-rounded h z positive = go (shrZ (z +ℤ pos h) (2 * h) *ℤ pos (2 * h)) (shr-le (z +ℤ pos h) (2 * h) (omega arith)) (shr-ge (z +ℤ pos h) (2 * h) (omega arith))
   where
     go : (y : ℤ) → y ≼ z +ℤ pos h → z +ℤ pos h ≼ y +ℤ pos (2 * h - 1) → Near y z h
     go y lo hi =

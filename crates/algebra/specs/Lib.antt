@@ -1,4 +1,3 @@
--- What the statements of distances are written in: signed numbers, remainders and sums, Near, and the sine's series. No service of its own.
+-- What the statements of distances are written in: signed numbers, remainders and sums, and Near. No service of its own.
 pub mod Integers
 pub mod Near
-pub mod Series

@@ -1,4 +1,5 @@
--- Bounds of the definitions: no product of the code passes 64 bits, and every argument is below a turn.
+-- Bounds of the definitions: no product of the code passes 64 bits, and every argument is below a turn. The time s is bounded by the last moment,
+-- and each nested product by s and the bound of the one inside it.
 -- Assumes nothing.
 use Prim.Native.Nat.{ℕ, zero, suc, _+_, _*_, _-_, _/_, _%_, _^_, _≤_, _<_}
 use native.Mathlib.Nat as Nat
@@ -11,11 +12,14 @@ use Rattle.instants.specs.Moments.{latest}
 use Rattle.arguments.specs.Ours.{high, perCentury, term₃, term₂, term₁, halfAt, up₁, down₁, up₂, down₂, up₃, down₃, up₄, down₄, up₅, down₅, argument, ourArguments}
 use Rattle.arguments.specs.Inner.{HalfBounds}
 
--- nine centuries and a little, with 24 binary places
-pub centuries-le : (x : ℕ) → x ≤ latest → high x perCentury ≤ 151200000
+-- nine centuries and a little, in units of 2^-24 century
+abbrev pub centuriesMost : ℕ
+centuriesMost = 151_200_000
+
+pub centuries-le : (x : ℕ) → x ≤ latest → high x perCentury ≤ centuriesMost
 centuries-le x h = bound (Nat.mul-le-mul-right perCentury h)
   where
-    bound : x * perCentury ≤ latest * perCentury → x * perCentury / 2 ^ 64 ≤ 151200000
+    bound : x * perCentury ≤ latest * perCentury → x * perCentury / 2 ^ 64 ≤ centuriesMost
     bound k = omega arith
 
 -- the upper half of a product is at most either factor
@@ -25,33 +29,43 @@ high-le x g h = bound (Nat.mul-le-mul-left x (Nat.le-of-lt h))
     bound : x * g ≤ x * 2 ^ 64 → x * g / 2 ^ 64 ≤ x
     bound k = omega arith
 
-at-most : (b : ℕ) {s h : ℕ} → s ≤ 151200000 → h ≤ b → s * h ≤ 151200000 * b
+at-most : (b : ℕ) {s h : ℕ} → s ≤ centuriesMost → h ≤ b → s * h ≤ centuriesMost * b
 at-most b h k = mul-le-mul h k
 
--- the products of a half
+-- the nested sums of a half, from the inside
+abbrev most₃ : ℕ
+most₃ = 140_000_000
+
+abbrev most₂ : ℕ
+most₂ = 70_000_000_000
+
+abbrev most₁ : ℕ
+most₁ = 10_000_000_000
+
+-- its products
 pub record Sizes (k : Half) (s : ℕ) : Type 0 where
-  pub fourth : s * k .k4 ≤ 151200000 * 524288
-  pub third : s * term₃ k s ≤ 151200000 * 140000000
-  pub second : s * term₂ k s ≤ 151200000 * 70000000000
-  pub first : s * term₁ k s ≤ 151200000 * 10000000000
+  pub fourth : s * k .k4 ≤ centuriesMost * 2 ^ 19
+  pub third : s * term₃ k s ≤ centuriesMost * most₃
+  pub second : s * term₂ k s ≤ centuriesMost * most₂
+  pub first : s * term₁ k s ≤ centuriesMost * most₁
 
 pub sizes : (k : Half) {x s : ℕ} → HalfBounds x s k → Sizes k s
 sizes k {x} {s} w = record { fourth = p₄; third = p₃; second = p₂; first = p₁ }
   where
-    small : s ≤ 151200000
+    small : s ≤ centuriesMost
     small = le-trans (Nat.le-of-eq (w .centuries)) (centuries-le x (w .time))
 
-    p₄ : s * k .k4 ≤ 151200000 * 524288
-    p₄ = at-most 524288 small (omega arith)
+    p₄ : s * k .k4 ≤ centuriesMost * 2 ^ 19
+    p₄ = at-most (2 ^ 19) small (omega arith)
 
-    p₃ : s * term₃ k s ≤ 151200000 * 140000000
-    p₃ = at-most 140000000 small (omega (arith, p₄))
+    p₃ : s * term₃ k s ≤ centuriesMost * most₃
+    p₃ = at-most most₃ small (omega (arith, p₄))
 
-    p₂ : s * term₂ k s ≤ 151200000 * 70000000000
-    p₂ = at-most 70000000000 small (omega (arith, p₃))
+    p₂ : s * term₂ k s ≤ centuriesMost * most₂
+    p₂ = at-most most₂ small (omega (arith, p₃))
 
-    p₁ : s * term₁ k s ≤ 151200000 * 10000000000
-    p₁ = at-most 10000000000 small (omega (arith, p₂))
+    p₁ : s * term₁ k s ≤ centuriesMost * most₁
+    p₁ = at-most most₁ small (omega (arith, p₂))
 
 -- every argument is below a turn
 pub argument-less : (up down : Half) (x : ℕ) → argument up down x < 2 ^ 41

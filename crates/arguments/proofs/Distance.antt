@@ -1,5 +1,7 @@
 -- The angle of every row of the table, ours against the exact one, on every day from 1600 to 2400: within `angleDistance` units of 2^-41 turn,
--- but for whole turns. Two computed tests give the distances: an argument's from its constants, the row's from the table.
+-- but for whole turns. An argument is the difference of its two halves, each near its polynomial (Quartic); a row's angle is off by at most the
+-- sum over its columns of the multiplier's magnitude times the argument's distance. Two computed tests give the distances: an argument's from
+-- its constants, the row's from the table.
 -- Assumes nothing.
 use mathlib.Core.Path.{_≡_, sym, _∙_, ap, ap₂, subst}
 use mathlib.Core.Bool.{Bool, true, _&&_}

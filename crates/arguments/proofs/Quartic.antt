@@ -1,5 +1,7 @@
--- A polynomial of degree four with natural coefficients u, at x / N, over the turn T: `halfAt` of its constants is near it, by a distance that
--- is computed from the constants. Then the same of a difference of two halves, and of a polynomial at x − 5 N.
+-- The distance of an argument. Its polynomial at t = x / N − 5 is expanded in powers of x / N and split by the signs of its coefficients into two
+-- halves with natural coefficients u, over the turn T. A half is a constant, a linear part and the nested products of the degrees 2 to 4: each
+-- step's error is that of its constant, of the time s with 24 binary places and of its own quotient rounded down (Floor), and the errors add up.
+-- Every one is computed from the constants and a bound X of x.
 -- Assumes nothing.
 use mathlib.Core.Path.{_≡_, refl, _∙_, ap}
 use Prim.Native.Nat.{ℕ, _+_, _*_, _/_, _^_, _≤_}

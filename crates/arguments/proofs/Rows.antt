@@ -1,19 +1,19 @@
--- The table's rows, each of five multipliers from -2 to 3 and of small coefficients, and the sum over a row's columns, one after the other.
+-- The table's rows, each of five multipliers from -2 to 3, and the sum over a row's columns, one after the other.
 -- Assumes nothing.
 use mathlib.Core.Path.{_≡_, refl, _∙_, ap}
 use mathlib.Core.Bool.{Bool, true, _&&_}
 use mathlib.Core.List.{List, [], _∷_}
-use Prim.Native.Nat.{ℕ, zero, suc, _+_, _^_, _≤_, _<_}
+use Prim.Native.Nat.{ℕ, zero, suc, _+_, _≤_, _<_}
 use native.Mathlib.Numerals.{add-one}
 use native.Mathlib.Omega.{arith}
-use lib.Dec.{T, eqb, eqb→eq, leb, leb→le, lit≤}
+use lib.Dec.{T, eqb, eqb→eq}
 use lib.ListN.{length, getD, drop, drop-of-length-le}
 use lib.Seq.{drop-cons}
-use lib.IntN.{ℤ, pos, natAbs}
+use lib.IntN.{ℤ, pos}
 use lib.Signed.{leZ, leZ-yes}
 use Rattle.algebra.specs.Integers.{+_, −_}
 use Rattle.algebra.proofs.Tests.{and-split, every, each}
-use Rattle.arguments.specs.Table.{multipliers, coefficients}
+use Rattle.arguments.specs.Table.{multipliers}
 use Rattle.arguments.specs.Ours.{column, columns}
 use Rattle.arguments.specs.Inner.{Multiplier}
 
@@ -43,22 +43,6 @@ pub row-range : (r : ℕ) → r < 62 → (j : ℕ) → Multiplier (getD (getD mu
 row-range r h j =
     range-at (getD multipliers r [])
     (and-split (eqb (length (getD multipliers r [])) 5) (inRange (getD multipliers r [])) (each rowOfFive multipliers rows-of-five [] r h) .1) j
-
--- no coefficient has a magnitude above 2^24
-abbrev pub smallRow : List ℤ → Bool
-smallRow [] = true
-smallRow (c ∷ cs) = leb (natAbs c) (2 ^ 24) && smallRow cs
-
-rows-small : T (every smallRow coefficients)
-rows-small = tt
-
-small-at : (cs : List ℤ) → T (smallRow cs) → (j : ℕ) → natAbs (getD cs j (pos 0)) ≤ 2 ^ 24
-small-at [] t j = lit≤ tt
-small-at (c ∷ cs) t zero = leb→le (natAbs c) (2 ^ 24) (and-split (leb (natAbs c) (2 ^ 24)) (smallRow cs) t .0)
-small-at (c ∷ cs) t (suc j) = small-at cs (and-split (leb (natAbs c) (2 ^ 24)) (smallRow cs) t .1) j
-
-pub coefficient-small : (r : ℕ) → r < 62 → (j : ℕ) → natAbs (getD (getD coefficients r []) j (pos 0)) ≤ 2 ^ 24
-coefficient-small r h j = small-at (getD coefficients r []) (each smallRow coefficients rows-small [] r h) j
 
 -- ---- the sum over the columns from j on
 

@@ -9,20 +9,36 @@ ghost use Rattle.arguments.specs.Ours as ours;
 ghost use Rattle.instants.specs.Moments.{latest};
 ghost use Rattle.arguments.specs.Inner.{HalfBounds, Multiplier};
 
+// A turn, in units of 2^-41 turn.
+const TURN: u64 = 1 << 41;
+
+// A unit of the upper half of a number of 64 bits.
+const UPPER: u64 = 1 << 32;
+
+// A century, in units of 2^-24 century.
+const CENTURY: u64 = 1 << 24;
+
+// A century, and six of the ten binary places that the constants from the second degree on have more than an angle.
+const CENTURY_SIX: u64 = 1 << 30;
+
+// A century, and the other four.
+const CENTURY_FOUR: u64 = 1 << 28;
+
 // The upper half of the product of two numbers of 64 bits, by halves of 32 bits.
 pub fn high(a: u64, b: u64) -> u64
     ensures { λ r. ⌜ r ≡ a * b / 2 ^ 64 ⌝ }
 {
-    let a1 = a / 4294967296;
-    let a0 = a % 4294967296;
-    let b1 = b / 4294967296;
-    let b0 = b % 4294967296;
-    let middle = a1 * b0 + a0 * b0 / 4294967296;
-    let next = a0 * b1 + middle % 4294967296;
-    a1 * b1 + middle / 4294967296 + next / 4294967296
+    let a1 = a / UPPER;
+    let a0 = a % UPPER;
+    let b1 = b / UPPER;
+    let b0 = b % UPPER;
+    let middle = a1 * b0 + a0 * b0 / UPPER;
+    let next = a0 * b1 + middle % UPPER;
+    a1 * b1 + middle / UPPER + next / UPPER
 }
 
 // The constants of one half of an argument: its coefficients over the turn, to nearest, from the degree 0 to the degree 4.
+// The first is in units of 2^-41 turn, the second of 2^-105 turn by microsecond, the others of 2^-51 turn.
 struct Half {
     a0: u64,
     g: u64,
@@ -31,15 +47,15 @@ struct Half {
     k4: u64,
 }
 
-// One half of an argument at x, which is s centuries with 24 binary places.
+// One half of an argument at x, which is s in units of 2^-24 century: in units of 2^-41 turn.
 fn half_at(x: u64, s: u64, k: Half) -> u64
     requires { ⌜ HalfBounds x s k ⌝ }
     ensures { λ r. ⌜ (r ≡ ours.halfAt k x) × (r < 2 ^ 56) ⌝ }
 {
-    let h3 = k.k3 + s * k.k4 / 16777216;
-    let h2 = k.k2 + s * h3 / 16777216;
-    let h1 = s * h2 / 1073741824;
-    k.a0 + high(x, k.g) + s * h1 / 268435456
+    let h3 = k.k3 + s * k.k4 / CENTURY;
+    let h2 = k.k2 + s * h3 / CENTURY;
+    let h1 = s * h2 / CENTURY_SIX;
+    k.a0 + high(x, k.g) + s * h1 / CENTURY_FOUR
 }
 
 // One argument, in units of 2^-41 turn, whole turns removed.
@@ -49,7 +65,7 @@ fn argument(x: u64, s: u64, up: Half, down: Half) -> u64
 {
     let u = half_at(x, s, up);
     let d = half_at(x, s, down);
-    (u + (2199023255552 - d % 2199023255552)) % 2199023255552
+    (u + (TURN - d % TURN)) % TURN
 }
 
 // The halves of l, l', F, D and Omega.
@@ -153,7 +169,7 @@ fn column(k: i8, a: u64) -> u64
     requires { ⌜ Multiplier k × (a ≤ 2 ^ 41) ⌝ }
     ensures { λ r. ⌜ (r ≡ ours.column k a) × (r ≤ 2 ^ 44) ⌝ }
 {
-    (k + 2) as u64 * a + 2 * (2199023255552 - a)
+    (k + 2) as u64 * a + 2 * (TURN - a)
 }
 
 // The angle of a row, in units of 2^-41 turn, whole turns removed. The table of multipliers is lent, so that it is not made anew for each row.
@@ -167,5 +183,5 @@ pub fn angle(t: &[[i8; 5]; 62], row: usize, a: [u64; 5]) -> u64
         sum = sum + column(t[row][j], a[j]);
         j = j + 1;
     }
-    sum % 2199023255552
+    sum % TURN
 }

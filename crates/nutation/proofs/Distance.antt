@@ -19,7 +19,7 @@ use Rattle.algebra.proofs.Floor.{near-rounded}
 use Rattle.algebra.proofs.Turns.{Turns, turns-of, turns-right, turns-removed, remainder-less}
 use Rattle.sine.specs.Exact.{sineDen, exactSine, exactCosine}
 use Rattle.sine.specs.Ours.{ourSine, ourCosine}
-use Rattle.sine.proofs.Series.{sineDen-positive}
+use Rattle.sine.proofs.Angles.{sineDen-positive}
 use Rattle.sine.proofs.Sizes.{sine-below, cosine-below}
 use Rattle.sine.proofs.Distance.{sineDistance, SineNear, sine-near, cosine-near}
 use Rattle.instants.specs.Moments.{sinceJ2000, century, moment, latest, since}

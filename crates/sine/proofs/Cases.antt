@@ -1,4 +1,4 @@
--- The cases of our sine, as the code goes by them.
+-- The cases of our sine, as the code goes by them: reflected in the quarter turn, lowered by a half turn, and the sign.
 -- Assumes nothing.
 use mathlib.Core.Path.{_≡_, refl, sym, _∙_, ap}
 use mathlib.Core.Bool.{Bool, true, false, cond}

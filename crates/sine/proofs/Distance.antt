@@ -1,4 +1,8 @@
 -- THE DISTANCE FACT: our sine and cosine against the exact ones, at any two angles that are near one another, whole turns apart or not.
+-- Up to a quarter turn there are two parts: the routine's own error at q of 2^30 parts (13 units of 2^-31, Quarter), and the cut of the angle to
+-- those parts, by at most 511 units of 2^-41 turn, which the sine makes at most 16 times as large: 8 units. Both sines are odd, so the same holds
+-- on a quarter on either side of zero; every angle is folded to there, and near angles have near folds (Fold). The angles' own distance e adds
+-- 16 * e units of 2^-41, which is e / 64 units of 2^-31. The cosine is the sine a quarter turn on.
 -- Assumes nothing.
 use mathlib.Core.Path.{_≡_, refl, sym, _∙_, ap, subst}
 use Prim.Native.Nat.{ℕ, zero, suc, _+_, _*_, _-_, _/_, _%_, _^_, _≤_, _<_}
@@ -16,7 +20,7 @@ use Rattle.algebra.proofs.Floor.{near-floor, near-rounded}
 use Rattle.algebra.proofs.Turns.{Turns, turns-of, turns-wide, turns-add, turns-removed}
 use Rattle.sine.specs.Exact.{S, sineDen, wholeTurn, exactSine, exactCosine}
 use Rattle.sine.specs.Ours.{alternating, sineQuarter, quarterTurn, ourSine, ourCosine}
-use Rattle.sine.proofs.Series.{signedS, S-odd, S-fine, S-moves, sineDen-fine, slope}
+use Rattle.sine.proofs.Angles.{signedS, S-odd, S-fine, S-moves, sineDen-fine, slope}
 use Rattle.sine.proofs.Fold.{Fold, fold-is, fold-scale, fold-small, fold-near, odd-turn}
 use Rattle.sine.proofs.Quarter.{routineDistance, quarter-near}
 

@@ -1,5 +1,6 @@
 -- An angle folded to a quarter on either side of zero: A, Q/2 - A or A - Q, of which the sine is the same. The fold of two angles that are
--- within e of one another, whole turns apart or not, is within e.
+-- within e of one another, whole turns apart or not, is within e: in one turn by the nine cases of two folds, whose slopes are 1 and -1, and across
+-- the end of a turn by way of the fold there, which is 0.
 -- Assumes nothing.
 use mathlib.Core.Path.{_≡_, refl, sym, _∙_, ap}
 use mathlib.Core.Bool.{Bool, true, false, cond}

@@ -1,6 +1,8 @@
 -- Our alternating sum against the exact one. The exact one is c₀ - x*(c₁ - x*(c₂ - ..)), whose constants are a / (100 * m) for each a of a list,
 -- and whose x is w / W. Ours has x = z / F and its constants in units of 1 / F, and rounds each product down: z * p / F.
--- Errors are in hundredths of a unit of 1 / F.
+-- Errors are in hundredths of a unit of 1 / F. Going inwards, each step adds 50 for its constant, rounded to nearest, 100 for its product, rounded
+-- down, and for x, rounded down, at most what the rest of the sum amounts to; x is at most 1, so the error of the rest does not grow. The terms
+-- that ours leaves out at the end are bounded by their total.
 -- Assumes nothing.
 use mathlib.Core.Path.{_≡_, refl, _∙_, ap}
 use mathlib.Core.Bool.{Bool, false, _&&_}

@@ -1,4 +1,6 @@
--- Our sine at q of 2^30 parts of a quarter, against the exact series there: within 13 units of 2^-31.
+-- Our sine at q of 2^30 parts of a quarter, against the exact series there: within 13 units of 2^-31. The series is q / 2^30 times the exact
+-- alternating sum in the square of q / 2^30, whose constants are (pi/2)^(2k+1) / (2k+1)!. Ours is off by the error of its alternating sum
+-- (Nested), which is computed from the constants, and by one unit for the last product, rounded down.
 -- Assumes nothing.
 use mathlib.Core.Path.{_≡_, refl, sym, _∙_, ap, ap₂}
 use mathlib.Core.List.{List, [], _∷_}
@@ -9,13 +11,13 @@ use native.Mathlib.Omega.{arith}
 use lib.Dec.{T, lit≤}
 use lib.IntN.{ℤ, pos, _-ℤ_, _*ℤ_, pow}
 use Rattle.algebra.specs.Near.{Near}
-use Rattle.algebra.specs.Series.{factorial, series}
+use Rattle.sine.specs.Series.{factorial, series}
 use Rattle.algebra.proofs.Integers.{pow-pos}
 use Rattle.algebra.proofs.Polynomial.{Expr, var, _⊖_, _⊗_, _↑_, #, solve}
 use Rattle.algebra.proofs.Ring.{end, _▸_, _▹_, ring, quote, ringN, quoteN}
 use Rattle.algebra.proofs.Near.{near-as, near-trans, near-scale}
 use Rattle.algebra.proofs.Floor.{near-floor}
-use Rattle.algebra.proofs.Series.{seriesE}
+use Rattle.sine.proofs.Series.{seriesE}
 use Rattle.sine.specs.Exact.{turnNum, S, sineDen}
 use Rattle.sine.specs.Ours.{firstConstant, otherConstants, alternating, sineQuarter}
 use Rattle.sine.proofs.Nested.{exactNested, power, error, constantsTest, alternating-near}
@@ -151,4 +153,4 @@ routineDistance = 13
 
 pub quarter-near : (q : ℕ) → q ≤ 2 ^ 30 → Near (pos (sineQuarter q) *ℤ pos (sineDen (2 ^ 32))) (S (2 ^ 32) q *ℤ pos (2 ^ 31)) (routineDistance * sineDen (2 ^ 32))
 unfolding S sineDen sineQuarter
-quarter-near q h = series-near (2 ^ 31) (2 ^ 30) (2 ^ 29) turnNum 40000000000000000000000 firstConstant otherConstants (lit≤ tt) (lit≤ tt) (lit≤ tt) (lit≤ tt) refl tt q h routineDistance (lit≤ tt)
+quarter-near q h = series-near (2 ^ 31) (2 ^ 30) (2 ^ 29) turnNum (4 * 10 ^ 22) firstConstant otherConstants (lit≤ tt) (lit≤ tt) (lit≤ tt) (lit≤ tt) refl tt q h routineDistance (lit≤ tt)

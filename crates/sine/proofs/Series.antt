@@ -1,92 +1,75 @@
--- The series at an angle of either sign: it is odd, it is the same at a finer division of the turn, and it moves at most 16 times as fast as
--- its angle, in turns. Its denominator is above 0.
+-- The sine's series at X / D: it is odd, it is the same fraction over a larger denominator, and it moves slowly up to 79/50, which is just above
+-- pi/2. The first two are equations of polynomials. For the last, a power moves by at most its slope at the bound, and the terms' slopes are added up.
 -- Assumes nothing.
-use mathlib.Core.Path.{_≡_, sym, _∙_, ap, ap₂}
-use Prim.Native.Nat.{ℕ, _*_, _^_, _≤_, _<_}
+use mathlib.Core.Path.{_≡_, refl, sym, _∙_, ap, ap₂}
+use Prim.Native.Nat.{ℕ, zero, suc, _+_, _*_, _-_, _/_, _^_, _≤_}
 use native.Mathlib.Nat as N
-use native.Mathlib.Nat.{le-trans, le-of-eq, mul-le-mul}
+use native.Mathlib.Nat.{le-trans, le-of-eq}
 use native.Mathlib.Omega.{arith}
-use lib.Dec.{lit≤}
-use lib.IntN.{ℤ, pos, negℤ, _*ℤ_, natAbs}
+use lib.IntN.{ℤ, pos, negℤ, _*ℤ_, natAbs, pow, one}
+use Rattle.algebra.specs.Integers.{−_, sumℕ}
 use Rattle.algebra.specs.Near.{Near}
-use Rattle.algebra.specs.Series.{factorial, series}
-use Rattle.algebra.proofs.Integers.{pow-pos}
-use Rattle.algebra.proofs.Ring.{end, _▸_, _▹_, ring, quote, ringN, quoteN}
+use Rattle.sine.specs.Series.{factorial, seriesCoefficient, series}
+use Rattle.algebra.proofs.Integers.{one-mul}
+use Rattle.algebra.proofs.Polynomial.{Expr, var, con, _⊕_, _⊗_, neg, _↑_, #, end, _▸_, solve}
+use Rattle.algebra.proofs.Ring.{_▹_, ringN, quoteN}
 use Rattle.algebra.proofs.Order.{abs-mul}
-use Rattle.algebra.proofs.Near.{near-as, near-scale}
-use Rattle.algebra.proofs.Series.{series-odd, series-scale, slopeSum, series-moves}
-use Rattle.sine.specs.Exact.{turnNum, turnDen, sineDen}
+use Rattle.algebra.proofs.Near.{near-as, near-wide, near-mul, near-sum}
 
--- S at z of Q parts of a turn
-unfoldable pub signedS : ℕ → ℤ → ℤ
-signedS Q z = series (z *ℤ pos turnNum) (pos (Q * turnDen))
+-- the series as an expression
+abbrev sumE : ℕ → (ℕ → Expr) → Expr
+sumE zero f = # 0
+sumE (suc n) f = sumE n f ⊕ f n
 
--- the denominator is above 0
-pub sineDen-positive : (Q : ℕ) → 0 < Q → 0 < sineDen Q
-unfolding sineDen
-sineDen-positive Q h = N.mul-pos (N.one-le-pow 23 (Q * turnDen) (N.mul-pos h (lit≤ tt))) (lit≤ tt)
+abbrev pub seriesE : Expr → Expr → Expr
+seriesE X D = sumE 12 (λ k. con (− 1) ↑ k ⊗ D ↑ (22 - 2 * k) ⊗ # (factorial 23 / factorial (suc (2 * k))) ⊗ X ↑ suc (2 * k))
 
--- ---- odd
+pub series-odd : (X D : ℤ) → series (negℤ X) D ≡ negℤ (series X D)
+series-odd X D = solve (seriesE (neg (var 0)) (var 1)) (neg (seriesE (var 0) (var 1))) (X ▸ D ▸ end) tt
 
-pub S-odd : (Q : ℕ) (z : ℤ) → signedS Q (negℤ z) ≡ negℤ (signedS Q z)
-unfolding signedS
-S-odd Q z = ap (λ (x : ℤ). series x (pos (Q * turnDen))) (alg z (pos turnNum)) ∙ series-odd (z *ℤ pos turnNum) (pos (Q * turnDen))
-  where
-    alg : (z t : ℤ) → negℤ z *ℤ t ≡ negℤ (z *ℤ t)
-    alg z t = ring (z ▸ t ▸ end) (search quote depth 13) tt
-
--- ---- at c times as many parts
-
-pub S-fine : (c Q : ℕ) (z : ℤ) → signedS (c * Q) (pos c *ℤ z) ≡ pos (c ^ 23) *ℤ signedS Q z
-unfolding signedS
-S-fine c Q z =
-    ap₂ series (alg (pos c) z (pos turnNum)) (alg (pos c) (pos Q) (pos turnDen))
-    ∙ series-scale (pos c) (z *ℤ pos turnNum) (pos (Q * turnDen)) ∙ ap (λ (x : ℤ). x *ℤ series (z *ℤ pos turnNum) (pos (Q * turnDen))) (pow-pos c 23)
-  where
-    alg : (c z t : ℤ) → c *ℤ z *ℤ t ≡ c *ℤ (z *ℤ t)
-    alg c z t = ring (c ▸ z ▸ t ▸ end) (search quote depth 13) tt
-
-pub sineDen-fine : (c Q : ℕ) → sineDen (c * Q) ≡ c ^ 23 * sineDen Q
-unfolding sineDen
-sineDen-fine c Q = go c Q turnDen (factorial 23)
-  where
-    go : (c q u f : ℕ) → (c * q * u) ^ 23 * f ≡ c ^ 23 * ((q * u) ^ 23 * f)
-    go c q u f = ringN (c ▹ q ▹ u ▹ f ▹ end) (search quoteN depth 13) tt
+-- the same point over a larger denominator
+pub series-scale : (c X D : ℤ) → series (c *ℤ X) (c *ℤ D) ≡ pow c 23 *ℤ series X D
+series-scale c X D = solve (seriesE (var 0 ⊗ var 1) (var 0 ⊗ var 2)) (var 0 ↑ 23 ⊗ seriesE (var 1) (var 2)) (c ▸ X ▸ D ▸ end) tt
 
 -- ---- how fast it moves
 
--- per turn, at most: 2 pi times the hyperbolic cosine of 79/50 is 15.9
-abbrev pub slope : ℕ
-slope = 16
+pub abs-pow : (x : ℤ) (n : ℕ) → natAbs (pow x n) ≡ natAbs x ^ n
+unfolding pow one
+abs-pow x zero = sym (N.pow-zero (natAbs x))
+abs-pow x (suc n) = abs-mul (pow x n) x ∙ ap (λ (k : ℕ). k * natAbs x) (abs-pow x n) ∙ sym (N.pow-suc (natAbs x) n)
 
-quarter : (a Q t u : ℕ) → 4 * a ≤ Q → t ≤ 316 * u → a * t ≤ 79 * (Q * u)
-quarter a Q t u h k = omega (arith, mul-le-mul h k)
-
-bound : (Q K P t e u f G : ℕ) → K * t ≤ 16 * (G * u * f) → Q * (K * (P * (t * e))) ≤ 16 * e * (G * (P * (Q * u)) * f)
-bound Q K P t e u f G h = omega (arith, N.mul-le-mul-left (Q * P * e) h)
-
-pub S-moves : (Q e : ℕ) (y z : ℤ) → 4 * natAbs y ≤ Q → 4 * natAbs z ≤ Q → Near y z e → Near (pos Q *ℤ signedS Q y) (pos Q *ℤ signedS Q z) (slope * e * sineDen Q)
-unfolding signedS sineDen
-S-moves Q e y z hy hz n = near-as (near-scale (pos Q) (series-moves (Q * u) (turnNum * e) (y *ℤ pos turnNum) (z *ℤ pos turnNum) (small y hy) (small z hz) angle)) (side y) (side z)
-    (le-trans (bound Q slopeSum ((Q * u) ^ 22) turnNum e u (factorial 23) (50 ^ 23) (lit≤ tt)) (le-of-eq (ap (λ (k : ℕ). slope * e * k) (sym (den Q u (factorial 23))))))
+pub near-pow : (B : ℕ) {x y : ℤ} {e : ℕ} → natAbs x ≤ B → natAbs y ≤ B → Near x y e → (n : ℕ) → Near (pow x (suc n)) (pow y (suc n)) (suc n * B ^ n * e)
+unfolding pow one
+near-pow B {x} {y} {e} bx by n zero = near-as n (one-mul x) (one-mul y) (le-of-eq (sym (N.one-mul e) ∙ ap (λ (k : ℕ). 1 * k * e) (sym (N.pow-zero B))))
+near-pow B {x} {y} {e} bx by n (suc m) =
+    near-wide (near-mul B (B ^ suc m) by (le-trans (le-of-eq (abs-pow x (suc m))) (N.pow-le-pow-left bx (suc m))) (near-pow B bx by n m) n)
+    (le-of-eq (ap (λ (k : ℕ). suc m * B ^ m * e * B + k * e) (N.pow-suc B m) ∙ alg (B ^ m) m ∙ ap (λ (k : ℕ). suc (suc m) * k * e) (sym (N.pow-suc B m))))
   where
-    u : ℕ
-    u = 20000000000000000000000
+    alg : (P m : ℕ) → suc m * P * e * B + P * B * e ≡ suc (suc m) * (P * B) * e
+    alg P m = omega arith
 
-    den : (Q u f : ℕ) → (Q * (50 * u)) ^ 23 * f ≡ 50 ^ 23 * ((Q * u) ^ 22 * (Q * u)) * f
-    den Q u f = ringN (Q ▹ u ▹ f ▹ end) (search quoteN depth 13) tt
+one-pow : (n : ℕ) → 1 ^ n ≡ 1
+one-pow zero = refl
+one-pow (suc n) = N.pow-suc 1 n ∙ N.mul-one (1 ^ n) ∙ one-pow n
 
-    units : (Q u : ℕ) → Q * (50 * u) ≡ 50 * (Q * u)
-    units Q u = ringN (Q ▹ u ▹ end) (search quoteN depth 13) tt
+weight : ℕ → ℕ → ℕ
+weight D k = D ^ (22 - 2 * k) * (factorial 23 / factorial (suc (2 * k)))
 
-    small : (x : ℤ) → 4 * natAbs x ≤ Q → natAbs (x *ℤ pos turnNum) ≤ 79 * (Q * u)
-    small x h = le-trans (le-of-eq (abs-mul x (pos turnNum))) (quarter (natAbs x) Q turnNum u h (lit≤ tt))
+coefficient-abs : (D k : ℕ) → natAbs (seriesCoefficient (pos D) k) ≤ weight D k
+unfolding weight
+coefficient-abs D k = le-of-eq (abs-mul (pow (− 1) k *ℤ pow (pos D) (22 - 2 * k)) (pos (factorial 23 / factorial (suc (2 * k))))
+    ∙ ap (λ (t : ℕ). t * (factorial 23 / factorial (suc (2 * k)))) (abs-mul (pow (− 1) k) (pow (pos D) (22 - 2 * k)) ∙ ap₂ _*_ (abs-pow (− 1) k ∙ one-pow k) (abs-pow (pos D) (22 - 2 * k)) ∙ N.one-mul (D ^ (22 - 2 * k))))
 
-    alg : (z t : ℤ) → z *ℤ t ≡ t *ℤ z
-    alg z t = ring (z ▸ t ▸ end) (search quote depth 13) tt
+-- the sum of the terms' slopes at 79/50, times 50^22 * 23!
+abbrev pub slopeSum : ℕ
+slopeSum = 1559677965465106264583844658404310854796530943902776565087743
 
-    angle : Near (y *ℤ pos turnNum) (z *ℤ pos turnNum) (turnNum * e)
-    angle = near-as (near-scale (pos turnNum) n) (alg y (pos turnNum)) (alg z (pos turnNum)) (N.le-refl (turnNum * e))
+slope-sum : (C e : ℕ) → sumℕ 12 (λ k. weight (50 * C) k * (suc (2 * k) * (79 * C) ^ (2 * k) * e)) ≡ slopeSum * (C ^ 22 * e)
+unfolding weight
+slope-sum C e = ringN (C ▹ e ▹ end) (search quoteN depth 60 fits 9000) tt
 
-    side : (x : ℤ) → pos Q *ℤ series (x *ℤ pos turnNum) (pos (Q * turnDen)) ≡ pos Q *ℤ series (x *ℤ pos turnNum) (pos (50 * (Q * u)))
-    side x = ap (λ (k : ℕ). pos Q *ℤ series (x *ℤ pos turnNum) (pos k)) (units Q u)
+pub series-moves : (C e : ℕ) (X Y : ℤ) → natAbs X ≤ 79 * C → natAbs Y ≤ 79 * C → Near X Y e
+    → Near (series X (pos (50 * C))) (series Y (pos (50 * C))) (slopeSum * (C ^ 22 * e))
+series-moves C e X Y bX bY n =
+    near-wide (near-sum 12 (seriesCoefficient (pos (50 * C))) (λ k. pow X (suc (2 * k))) (λ k. pow Y (suc (2 * k))) (weight (50 * C)) (λ k. suc (2 * k) * (79 * C) ^ (2 * k) * e) (coefficient-abs (50 * C)) (λ k l. near-pow (79 * C) bX bY n (2 * k)))
+    (le-of-eq (slope-sum C e))

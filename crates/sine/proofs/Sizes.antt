@@ -1,7 +1,8 @@
--- How large our sine and cosine are.
+-- How large our sine and cosine are, so that they fit 33 bits with the sign. Up to nine tenths of a quarter turn the first constant alone bounds
+-- the sine; from there on the second constant takes enough off it.
 -- Assumes nothing.
 use mathlib.Core.List.{List, [], _∷_}
-use Prim.Native.Nat.{ℕ, _+_, _*_, _-_, _/_, _%_, _^_, _≤_, _<_}
+use Prim.Native.Nat.{ℕ, suc, _+_, _*_, _-_, _/_, _%_, _^_, _≤_, _<_}
 use native.Mathlib.Nat as N
 use native.Mathlib.Omega.{arith}
 use lib.Dec.{leb, leb→le, nleb→lt, lit≤}
@@ -16,9 +17,13 @@ unfolding alternating
 alternating-small F z c [] = N.le-refl c
 alternating-small F z c (d ∷ ds) = N.sub-le c (z * alternating F z d ds / F)
 
--- the most that our sine and cosine are, in units of 2^-31: up to nine tenths of a quarter the first constant shows it, and from there on the second
+-- the most that our sine and cosine are, in units of 2^-31
 abbrev pub sineMost : ℕ
 sineMost = 3040000000
+
+-- nine tenths of 2^30 parts
+abbrev nineTenths : ℕ
+nineTenths = 966367641
 
 second-low : (z p : ℕ) → z ≤ 2 ^ 31 → p ≤ 171138612 → 1216058725 ≤ 1387197337 - z * p / 2 ^ 31
 second-low z p h k = omega (arith, N.mul-le-mul h k)
@@ -28,24 +33,24 @@ first-high z p h k = omega (arith, N.mul-le-mul h k)
 
 sineQuarter-most : (q : ℕ) → q ≤ 2 ^ 30 → sineQuarter q ≤ sineMost
 unfolding sineQuarter alternating
-sineQuarter-most q h = by-test (leb q 966367641) (λ s. low (leb→le q 966367641 s)) (λ s. high (nleb→lt q 966367641 s))
+sineQuarter-most q h = by-test (leb q nineTenths) (λ s. low (leb→le q nineTenths s)) (λ s. high (nleb→lt q nineTenths s))
   where
     z : ℕ
     z = q * q / 2 ^ 29
 
-    low : q ≤ 966367641 → q * alternating (2 ^ 31) z firstConstant otherConstants / 2 ^ 30 ≤ sineMost
+    low : q ≤ nineTenths → q * alternating (2 ^ 31) z firstConstant otherConstants / 2 ^ 30 ≤ sineMost
     low k = bound (N.mul-le-mul k (alternating-small (2 ^ 31) z firstConstant otherConstants))
       where
-        bound : {n : ℕ} → n ≤ 966367641 * firstConstant → n / 2 ^ 30 ≤ sineMost
+        bound : {n : ℕ} → n ≤ nineTenths * firstConstant → n / 2 ^ 30 ≤ sineMost
         bound k = omega arith
 
-    high : 966367641 < q → q * alternating (2 ^ 31) z firstConstant otherConstants / 2 ^ 30 ≤ sineMost
+    high : nineTenths < q → q * alternating (2 ^ 31) z firstConstant otherConstants / 2 ^ 30 ≤ sineMost
     high k = bound (N.mul-le-mul h (first-high z _ (large (N.mul-le-mul k k)) (second-low z _ (small (N.mul-le-mul h h)) (alternating-small (2 ^ 31) z 171138612 (10053990 ∷ 344545 ∷ 7728 ∷ 122 ∷ 1 ∷ [])))))
       where
         bound : {n : ℕ} → n ≤ 2 ^ 30 * 2400000000 → n / 2 ^ 30 ≤ sineMost
         bound k = omega arith
 
-        large : {n : ℕ} → 966367642 * 966367642 ≤ n → 1739461750 ≤ n / 2 ^ 29
+        large : {n : ℕ} → suc nineTenths * suc nineTenths ≤ n → 1739461750 ≤ n / 2 ^ 29
         large k = omega arith
 
         small : {n : ℕ} → n ≤ 2 ^ 30 * 2 ^ 30 → n / 2 ^ 29 ≤ 2 ^ 31

@@ -2,7 +2,7 @@
 -- Assumes nothing.
 use mathlib.Core.Bool.{Bool, true, _&&_}
 use mathlib.Core.List.{List, [], _∷_}
-use Prim.Native.Nat.{ℕ, _^_}
+use Prim.Native.Nat.{ℕ, _*_, _^_}
 use lib.Dec.{T}
 use lib.IntN.{ℤ, pos, _*ℤ_, pow, one}
 use lib.Signed.{quotZ}
@@ -26,13 +26,13 @@ ours (r ∷ rs) = eqℤ (ourSine (r .angle)) (r .sine) && (eqℤ (ourCosine (r .
 our-values : T (ours (
     row 0 (+ 0) (+ 2147483649)
     ∷ row 123456789012 (+ 741908911) (+ 2015256108)
-    ∷ row 549755813888 (+ 2147483649) (+ 0)
+    ∷ row (2 ^ 39) (+ 2147483649) (+ 0)
     ∷ row 549755814665 (+ 2147483649) (− 3)
     ∷ row 1000000000000 (+ 602401727) (− 2061261308)
-    ∷ row 1099511627776 (+ 0) (− 2147483649)
+    ∷ row (2 ^ 40) (+ 0) (− 2147483649)
     ∷ row 1500000000000 (− 1955113805) (− 888378312)
-    ∷ row 1649267441664 (− 2147483649) (+ 0)
-    ∷ row 2199023201231 (− 333) (+ 2147483648)
+    ∷ row (3 * 2 ^ 39) (− 2147483649) (+ 0)
+    ∷ row 2199023201231 (− 333) (+ (2 ^ 31))
     ∷ []))
 unfolding ours ourSine ourCosine wholeTurn quarterTurn sineQuarter alternating
 our-values = tt

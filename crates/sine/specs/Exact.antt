@@ -5,7 +5,7 @@ use mathlib.Core.Bool.{cond}
 use Prim.Native.Nat.{ℕ, _+_, _*_, _-_, _/_, _%_, _^_}
 use lib.Dec.{leb}
 use lib.IntN.{ℤ, pos, negℤ}
-use Rattle.algebra.specs.Series.{factorial, series}
+use Rattle.sine.specs.Series.{factorial, series}
 
 -- a turn in radians: the fraction turnNum / turnDen
 abbrev pub turnNum : ℕ

@@ -1,3 +1,4 @@
--- The sine and cosine of an angle in turns. Read Exact, then Ours.
+-- The sine and cosine of an angle in turns. Read Series and Exact, then Ours.
+pub mod Series
 pub mod Exact
 pub mod Ours

@@ -6,12 +6,33 @@ ghost use lib.IntN.{pos, negℤ};
 ghost use Rattle.sine.specs.Exact.{halfTurn};
 ghost use Rattle.sine.specs.Ours.{sineQuarter, quarterTurn, ourSine, ourCosine};
 
+// A turn, in units of 2^-41 turn.
+const TURN: u64 = 1 << 41;
+
+// A half turn.
+const HALF: u64 = 1 << 40;
+
+// A quarter turn.
+const QUARTER: u64 = 1 << 39;
+
+// A quarter turn again, in the parts that the sine is taken at.
+const PARTS: u64 = 1 << 30;
+
+// One of these parts, in units of 2^-41 turn.
+const PART: u64 = 1 << 9;
+
+// A unit of 2^-31 in squares of such a part of one: 2^60 / 2^31.
+const SQUARES: u64 = 1 << 29;
+
+// One, in units of 2^-31.
+const ONE: u64 = 1 << 31;
+
 // The square of q / 2^30, in units of 2^-31.
 fn square(q: u64) -> u64
     requires { ⌜ q ≤ 2 ^ 30 ⌝ }
     ensures { λ r. ⌜ (r ≡ q * q / 2 ^ 29) × (r ≤ 2 ^ 31) ⌝ }
 {
-    q * q / 0x2000_0000
+    q * q / SQUARES
 }
 
 // c - z*p, in units of 2^-31.
@@ -19,7 +40,7 @@ fn step(c: u64, z: u64, p: u64) -> u64
     requires { ⌜ (z ≤ 2 ^ 31) × (p ≤ c) × (c < 2 ^ 32) ⌝ }
     ensures { λ r. ⌜ (r ≡ c - z * p / 2 ^ 31) × (r ≤ c) ⌝ }
 {
-    c - z * p / 0x8000_0000
+    c - z * p / ONE
 }
 
 // q / 2^30 times p.
@@ -27,7 +48,7 @@ fn scaled(q: u64, p: u64) -> u64
     requires { ⌜ (q ≤ 2 ^ 30) × (p < 2 ^ 32) ⌝ }
     ensures { λ r. ⌜ (r ≡ q * p / 2 ^ 30) × (r ≤ p) ⌝ }
 {
-    q * p / 0x4000_0000
+    q * p / PARTS
 }
 
 // The sine of q of 2^30 parts of a quarter turn.
@@ -51,11 +72,7 @@ fn reflected(a: u64) -> u64
     requires { ⌜ a ≤ 2 ^ 40 ⌝ }
     ensures { λ r. ⌜ (quarterTurn r ≡ halfTurn quarterTurn (2 ^ 41) a) × (r ≤ 2 ^ 39) ⌝ }
 {
-    if a <= 0x80_0000_0000 {
-        a
-    } else {
-        0x100_0000_0000 - a
-    }
+    if a <= QUARTER { a } else { HALF - a }
 }
 
 // The sine up to a half turn.
@@ -63,7 +80,7 @@ fn sine_half(a: u64) -> u64
     requires { ⌜ a ≤ 2 ^ 40 ⌝ }
     ensures { λ r. ⌜ (pos r ≡ halfTurn quarterTurn (2 ^ 41) a) × (r < 2 ^ 32) ⌝ }
 {
-    sine_quarter(reflected(a) / 512)
+    sine_quarter(reflected(a) / PART)
 }
 
 // An angle less a half turn, if it is above one.
@@ -71,11 +88,7 @@ fn lowered(a: u64) -> u64
     requires { ⌜ a < 2 ^ 41 ⌝ }
     ensures { λ r. ⌜ (a ≤ 2 ^ 40 → r ≡ a) × (2 ^ 40 < a → r ≡ a - 2 ^ 40) × (r ≤ 2 ^ 40) ⌝ }
 {
-    if a <= 0x100_0000_0000 {
-        a
-    } else {
-        a - 0x100_0000_0000
-    }
+    if a <= HALF { a } else { a - HALF }
 }
 
 // The number v, or minus v for an angle above a half turn.
@@ -83,18 +96,14 @@ fn signed(a: u64, v: u64) -> i64
     requires { ⌜ v < 2 ^ 32 ⌝ }
     ensures { λ r. ⌜ (a ≤ 2 ^ 40 → r ≡ pos v) × (2 ^ 40 < a → r ≡ negℤ (pos v)) ⌝ }
 {
-    if a <= 0x100_0000_0000 {
-        v as i64
-    } else {
-        0 - (v as i64)
-    }
+    if a <= HALF { v as i64 } else { 0 - (v as i64) }
 }
 
 // The sine of b.
 pub fn sine(b: u64) -> i64
     ensures { λ r. ⌜ r ≡ ourSine (b % 2 ^ 41) ⌝ }
 {
-    let a = b % 0x200_0000_0000;
+    let a = b % TURN;
     signed(a, sine_half(lowered(a)))
 }
 
@@ -102,5 +111,5 @@ pub fn sine(b: u64) -> i64
 pub fn cosine(b: u64) -> i64
     ensures { λ r. ⌜ r ≡ ourCosine (b % 2 ^ 41) ⌝ }
 {
-    sine(b % 0x200_0000_0000 + 0x80_0000_0000)
+    sine(b % TURN + QUARTER)
 }

@@ -1,4 +1,5 @@
--- Finite numbers of binary64 that are at most a whole number in size, and what the operations make of them. Assumes nothing.
+-- Finite numbers of binary64 that are at most a whole number in size, and what the operations make of them. The exact sum, product or quotient
+-- has the sum, product or quotient of the bounds, and is then rounded, which does not pass a whole number up to 2^53 (Rounded). Assumes nothing.
 use mathlib.Core.Path.{_≡_, refl, sym, ap, subst, _∙_}
 use Prim.Native.Nat.{ℕ, suc, _+_, _-_, _*_, _^_, _≤_, _<_}
 use native.Mathlib.Nat.{le-trans, le-of-eq, add-le-add, add-mul, mul-one, one-mul, mul-comm, mul-assoc, mul-left-comm, mul-le-mul-right, mul-le-mul, mul-pos}

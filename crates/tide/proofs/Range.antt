@@ -1,4 +1,5 @@
--- The phase of any sum of degrees, a NaN and the infinities too, is at least 0 and below 360. Assumes nothing.
+-- The phase of any sum of degrees, a NaN and the infinities too, is at least 0 and below 360. The remainder by 360 is a NaN or at most 360 in size;
+-- raised by 360 where it is negative, it is not below zero; and what is settled is below 360 with the sign +, or +0. Assumes nothing.
 use mathlib.Core.Path.{_≡_, refl, sym, ap, subst, _∙_}
 use Prim.Native.Nat.{ℕ, _+_, _-_, _*_, _%_, _≤_, _<_}
 use native.Mathlib.Nat.{le-trans, le-of-eq, le-of-lt, mul-one, mod-lt, mul-pos}

@@ -1,4 +1,7 @@
--- Bounds of the arguments at an accepted instant, of any day from 1600 to 2400, and of the sums of products. Assumes nothing.
+-- How large the numbers are at an accepted instant, of any day from 1600 to 2400, so that none is an infinity: the fraction of the day is at most 1
+-- and the centuries at most 7, so the Delaunay arguments F1 to F5 are at most 3503193 and their frequencies 8, the twelve Doodson arguments at most
+-- 15 million, and a sum of six products with multipliers up to 12 at most 72 times that. Each bound follows from those before by Bounded's laws.
+-- Assumes nothing.
 use mathlib.Core.Path.{_≡_, refl}
 use Prim.Native.Nat.{ℕ, _≤_, _<_}
 use native.Mathlib.Nat.{le-of-lt}
@@ -10,10 +13,10 @@ use Rattle.instants.specs.Instants.{IsAccepted, dayIndex}
 use Rattle.instants.proofs.Accepted.{accepted-at}
 use Rattle.tide.specs.declared.Doodson.{Doodson}
 use Rattle.tide.specs.declared.Arguments.{Arguments}
-use Rattle.tide.specs.Binary64.{whole, decimal, zero64}
+use Rattle.tide.specs.Binary64.{_⊕_, _⊖_, _⊗_, whole, decimal, zero64}
 use Rattle.tide.specs.Delaunay.{horner, F1, F2, F3, F4, F5, FD1, FD2, FD3, FD4, FD5}
 use Rattle.tide.specs.Tidal.{dayFraction, centuries, argumentsOf, argumentsAt, sumOfProducts, inRange, allInRange, doodson}
-use Rattle.tide.proofs.Signed.{accepted-size, range-size, Each, each}
+use Rattle.tide.proofs.Signed.{dayMost, accepted-size, range-size, Each, each}
 use Rattle.tide.proofs.Bounded.{Bound, known, number, wide, negated, added, subtracted, multiplied, divided, zero-product}
 
 -- ---- f and t
@@ -21,55 +24,43 @@ fraction-bound : (m : ℕ) → m < dayMicros → Bound 1 (dayFraction m)
 unfolding dayFraction ofInt
 fraction-bound m h = divided 10546875 13 tt refl (lit< tt) (number 86_400_000_000 (pos m) tt (le-of-lt h))
 
-centuries-bound : (d : ℤ) (f : Float) → natAbs d ≤ 198006 → Bound 1 f → Bound 7 (centuries d f)
+centuries-bound : (d : ℤ) (f : Float) → natAbs d ≤ dayMost → Bound 1 f → Bound 7 (centuries d f)
 unfolding centuries ofInt decimal
-centuries-bound d f h a = divided 36525 0 tt refl (lit< tt) (wide tt (added tt (subtracted tt (subtracted tt (number 198006 d tt h) (number 51544 (pos 51544) tt (lit≤ tt))) (known {B = 1} tt)) a))
+centuries-bound d f h a = divided 36525 0 tt refl (lit< tt) (wide tt (added tt (subtracted tt (subtracted tt (number dayMost d tt h) (number 51544 (pos 51544) tt (lit≤ tt))) (known {B = 1} tt)) a))
 
--- ---- the Delaunay arguments
-horner-bound : {t c0 c1 c2 c3 c4 : Float} → Bound 7 t → Bound 400 c0 → Bound 500_000 c1 → Bound 1 c2 → Bound 1 c3 → Bound 1 c4 → Bound 3_503_193 (horner t c0 c1 c2 c3 c4)
+-- ---- the Delaunay arguments and their frequencies
+
+-- 400 + 7 * (500000 + 7 * (1 + 7 * (1 + 7 * 1)))
+abbrev delaunayMost : ℕ
+delaunayMost = 3_503_193
+
+horner-bound : {t c0 c1 c2 c3 c4 : Float} → Bound 7 t → Bound 400 c0 → Bound 500_000 c1 → Bound 1 c2 → Bound 1 c3 → Bound 1 c4 → Bound delaunayMost (horner t c0 c1 c2 c3 c4)
 unfolding horner
 horner-bound t c0 c1 c2 c3 c4 = added tt c0 (multiplied tt t (added tt c1 (multiplied tt t (added tt c2 (multiplied tt t (added tt c3 (multiplied tt t c4)))))))
 
 module _ {t : Float} (h : Bound 7 t) where
-  F1-bound : Bound 3_503_193 (F1 t)
-  unfolding F1 decimal
-  F1-bound = horner-bound h (known tt) (known tt) (known tt) (known tt) (known tt)
+  -- all five at once
+  delaunay : Bound delaunayMost (F1 t) × Bound delaunayMost (F2 t) × Bound delaunayMost (F3 t) × Bound delaunayMost (F4 t) × Bound delaunayMost (F5 t)
+  unfolding F1 F2 F3 F4 F5 decimal
+  delaunay = (
+    horner-bound h (known tt) (known tt) (known tt) (known tt) (known tt),
+    horner-bound h (known tt) (known tt) (known tt) (known tt) (known tt),
+    horner-bound h (known tt) (known tt) (known tt) (known tt) (known tt),
+    horner-bound h (known tt) (known tt) (known tt) (known tt) (known tt),
+    horner-bound h (known tt) (known tt) (known tt) (known tt) (known tt),
+  )
 
-  F2-bound : Bound 3_503_193 (F2 t)
-  unfolding F2 decimal
-  F2-bound = horner-bound h (known tt) (known tt) (known tt) (known tt) (known tt)
+  -- c + d * t and c - d * t
+  rising : {c d : Float} → Bound 1 c → Bound 1 d → Bound 8 (c ⊕ d ⊗ t)
+  rising c d = added tt c (multiplied tt d h)
 
-  F3-bound : Bound 3_503_193 (F3 t)
-  unfolding F3 decimal
-  F3-bound = horner-bound h (known tt) (known tt) (known tt) (known tt) (known tt)
+  falling : {c d : Float} → Bound 1 c → Bound 1 d → Bound 8 (c ⊖ d ⊗ t)
+  falling c d = subtracted tt c (multiplied tt d h)
 
-  F4-bound : Bound 3_503_193 (F4 t)
-  unfolding F4 decimal
-  F4-bound = horner-bound h (known tt) (known tt) (known tt) (known tt) (known tt)
-
-  F5-bound : Bound 3_503_193 (F5 t)
-  unfolding F5 decimal
-  F5-bound = horner-bound h (known tt) (known tt) (known tt) (known tt) (known tt)
-
-  FD1-bound : Bound 8 (FD1 t)
-  unfolding FD1 decimal
-  FD1-bound = added {A = 1} tt (known tt) (multiplied {A = 1} tt (known tt) h)
-
-  FD3-bound : Bound 8 (FD3 t)
-  unfolding FD3 decimal
-  FD3-bound = subtracted {A = 1} tt (known tt) (multiplied {A = 1} tt (known tt) h)
-
-  FD4-bound : Bound 8 (FD4 t)
-  unfolding FD4 decimal
-  FD4-bound = subtracted {A = 1} tt (known tt) (multiplied {A = 1} tt (known tt) h)
-
-  FD5-bound : Bound 8 (FD5 t)
-  unfolding FD5 decimal
-  FD5-bound = added {A = 1} tt (known tt) (multiplied {A = 1} tt (known tt) h)
-
-FD2-bound : Bound 1 FD2
-unfolding FD2 decimal
-FD2-bound = known tt
+  -- that of l' is a constant
+  frequencies : Bound 8 (FD1 t) × Bound 1 FD2 × Bound 8 (FD3 t) × Bound 8 (FD4 t) × Bound 8 (FD5 t)
+  unfolding FD1 FD2 FD3 FD4 FD5 decimal
+  frequencies = (rising (known tt) (known tt), known tt, falling (known tt) (known tt), falling (known tt) (known tt), rising (known tt) (known tt))
 
 -- ---- the Doodson arguments: each of the twelve is at most 15 million in size
 abbrev pub Limited : Float → Type 0
@@ -92,23 +83,25 @@ pub record Bounds (a : Arguments) : Type 0 where
 bounds-of : (f t : Float) → Bound 1 f → Bound 7 t → Bounds (argumentsOf f t)
 unfolding argumentsOf
 bounds-of f t hf ht =
-    let d2 = added tt (F3-bound ht) (F5-bound ht) in
-    let d3 = subtracted tt d2 (F4-bound ht) in
-    let dd2 = added tt (FD3-bound ht) (FD5-bound ht) in
-    let dd3 = subtracted tt dd2 (FD4-bound ht) in
+    let F = delaunay ht in
+    let d2 = added tt (F .2) (F .4) in
+    let d3 = subtracted tt d2 (F .3) in
+    let FD = frequencies ht in
+    let dd2 = added tt (FD .2) (FD .4) in
+    let dd3 = subtracted tt dd2 (FD .3) in
     record {
-      d1 = wide tt (subtracted tt (multiplied tt (number 360 (pos 360) tt (lit≤ tt)) hf) (F4-bound ht));
+      d1 = wide tt (subtracted tt (multiplied tt (number 360 (pos 360) tt (lit≤ tt)) hf) (F .3));
       d2 = wide tt d2;
       d3 = wide tt d3;
-      d4 = wide tt (subtracted tt d2 (F1-bound ht));
-      d5 = wide tt (negated (F5-bound ht));
-      d6 = wide tt (subtracted tt d3 (F2-bound ht));
-      dd1 = wide tt (subtracted tt (number 1 (pos 1) tt (lit≤ tt)) (FD4-bound ht));
+      d4 = wide tt (subtracted tt d2 (F .0));
+      d5 = wide tt (negated (F .4));
+      d6 = wide tt (subtracted tt d3 (F .1));
+      dd1 = wide tt (subtracted tt (number 1 (pos 1) tt (lit≤ tt)) (FD .3));
       dd2 = wide tt dd2;
       dd3 = wide tt dd3;
-      dd4 = wide tt (subtracted tt dd2 (FD1-bound ht));
-      dd5 = wide tt (negated (FD5-bound ht));
-      dd6 = wide tt (subtracted tt dd3 FD2-bound);
+      dd4 = wide tt (subtracted tt dd2 (FD .0));
+      dd5 = wide tt (negated (FD .4));
+      dd6 = wide tt (subtracted tt dd3 (FD .1));
     }
 
 pub bounds-at : (d : ℤ) (m : ℕ) → IsAccepted d m → Bounds (argumentsAt d m)

@@ -50,6 +50,7 @@ pub enum TideAnswer {
     NoTide(u32),
 }
 
+// The fraction of a day, from its microseconds.
 fn day_fraction(micros: u64) -> f64
     requires { ⌜ micros < dayMicros ⌝ }
     ensures { λ r. ⌜ r ≡ dayFraction micros ⌝ }
@@ -57,6 +58,7 @@ fn day_fraction(micros: u64) -> f64
     micros as f64 / 86400000000.0
 }
 
+// The Julian centuries from J2000.0 to the fraction f of a day.
 fn julian_centuries(day: i64, f: f64) -> f64
     requires { ⌜ T (inFloat binary64 day) ⌝ }
     ensures { λ r. ⌜ r ≡ centuries day f ⌝ }
@@ -64,6 +66,7 @@ fn julian_centuries(day: i64, f: f64) -> f64
     (((day as f64 - 51544.0) - 0.5) + f) / 36525.0
 }
 
+// A polynomial of degree four at t, by nested products.
 fn quartic(t: f64, c0: f64, c1: f64, c2: f64, c3: f64, c4: f64) -> f64
     ensures { λ r. ⌜ r ≡ horner t c0 c1 c2 c3 c4 ⌝ }
 {
@@ -148,12 +151,14 @@ fn arguments_at(day: i64, micros: u64) -> Arguments
     arguments_of(f, julian_centuries(day, f))
 }
 
+// A multiplier is from -12 to 12.
 fn in_range(k: i64) -> bool
     ensures { λ r. ⌜ r ≡ inRange k ⌝ }
 {
     if -12 <= k { k <= 12 } else { false }
 }
 
+// All six are.
 fn all_in_range(k: Doodson) -> bool
     ensures { λ r. ⌜ r ≡ allInRange k ⌝ }
 {
@@ -165,6 +170,7 @@ fn all_in_range(k: Doodson) -> bool
         & in_range(k.k6)
 }
 
+// A multiplier times a number.
 fn product(k: i64, x: f64) -> f64
     requires { ⌜ T (inRange k) ⌝ }
     ensures { λ r. ⌜ r ≡ whole k ⊗ x ⌝ }
@@ -172,6 +178,7 @@ fn product(k: i64, x: f64) -> f64
     k as f64 * x
 }
 
+// The products with the six multipliers, added in order from +0.
 fn sum_of_products(k: Doodson, x1: f64, x2: f64, x3: f64, x4: f64, x5: f64, x6: f64) -> f64
     requires { ⌜ T (allInRange k) ⌝ }
     ensures { λ r. ⌜ r ≡ sumOfProducts k x1 x2 x3 x4 x5 x6 ⌝ }
@@ -221,7 +228,7 @@ fn answer_from(a: Arguments, k: Doodson) -> TideAnswer
     }
 }
 
-// The frequency and phase of a constituent at an instant.
+// The frequency and phase of a constituent at an instant, or the first refusal: of the instant, then of the multipliers.
 pub fn frequency_and_phase(day: i64, micros: u64, k: Doodson) -> TideAnswer
     ensures { λ r. ⌜ r ≡ tideOf day micros k ⌝ }
 {
@@ -231,6 +238,7 @@ pub fn frequency_and_phase(day: i64, micros: u64, k: Doodson) -> TideAnswer
     }
 }
 
+// The frequency of an answer, +0 on a refusal.
 pub fn frequency(a: TideAnswer) -> f64
     ensures { λ r. ⌜ r ≡ frequencyOf a ⌝ }
 {
@@ -240,6 +248,7 @@ pub fn frequency(a: TideAnswer) -> f64
     }
 }
 
+// The phase of an answer, +0 on a refusal.
 pub fn phase(a: TideAnswer) -> f64
     ensures { λ r. ⌜ r ≡ phaseOf a ⌝ }
 {
@@ -249,6 +258,7 @@ pub fn phase(a: TideAnswer) -> f64
     }
 }
 
+// The refusal number of an answer, 0 for none.
 pub fn refusal(a: TideAnswer) -> u32
     ensures { λ r. ⌜ r ≡ tideRefusalOf a ⌝ }
 {

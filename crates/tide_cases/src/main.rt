@@ -19,6 +19,7 @@ fn bits(x: f64) -> u64
     }
 }
 
+// A line for an instant and six multipliers.
 fn show(day: i64, micros: u64, k1: i64, k2: i64, k3: i64, k4: i64, k5: i64, k6: i64) {
     let k = Doodson {
         k1,
@@ -37,6 +38,7 @@ fn show(day: i64, micros: u64, k1: i64, k2: i64, k3: i64, k4: i64, k5: i64, k6: 
     io::write_all(STDOUT_FILENO, b"\n");
 }
 
+// The cases, in groups.
 fn main() {
     // M2 at the two instants of TDFRPH's test cases, read as TT.
     show(55007, 0, 2, 0, 0, 0, 0, 0);

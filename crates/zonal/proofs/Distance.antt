@@ -1,5 +1,6 @@
--- The distance of our three numbers from the exact sums, on every day from 1600 to 2400. It is computed from two named numbers, `sineDistance` of the
--- sine and `angleDistance` of the angle, and the table's weights.
+-- The distance of our three numbers from the exact sums, on every day from 1600 to 2400. A row's sine is off by `sineDistance`, and by what the
+-- angle's `angleDistance` makes of it; a sum by that times the weights of its two columns (Weighted); the number by its factor times the sum's
+-- distance and half a unit for the rounding. That this is within `proved` is one computed test for each number.
 -- Assumes nothing.
 use mathlib.Core.Path.{_≡_}
 use Prim.Native.Nat.{ℕ, _+_, _*_, _^_, _≤_, _<_}
@@ -13,7 +14,7 @@ use Rattle.instants.specs.Moments.{sinceJ2000, century, moment}
 use Rattle.arguments.specs.Exact.{turnParts, exactAngle}
 use Rattle.arguments.specs.Ours.{ourAngle}
 use Rattle.arguments.proofs.Distance.{angleDistance, angle-near, our-angle-less, exact-angle-less}
-use Rattle.sine.proofs.Series.{sineDen-positive}
+use Rattle.sine.proofs.Angles.{sineDen-positive}
 use Rattle.sine.proofs.Distance.{SineNear, sineDistance, sine-near, cosine-near, rounded-near}
 use Rattle.zonal.specs.declared.Corrections.{Corrections}
 use Rattle.zonal.specs.Exact.{rows, coefficient, denominator, exactRowSine, exactRowCosine}
@@ -29,7 +30,7 @@ proved = distances 3 18 2
 abbrev pub rowDistance : ℕ
 rowDistance = 64 * sineDistance + angleDistance
 
--- a sum over the column j and the next, times f and rounded to nearest, is within e
+-- the distance of a sum over the column j and the next, times f, leaves half a unit to e, in units of 2^-37
 abbrev pub Room : (f j e : ℕ) → Type 0
 Room f j e = f * (columnWeight j rows * rowDistance) + 64 * 2 ^ 30 ≤ e * (64 * 2 ^ 31)
 
@@ -37,6 +38,7 @@ Room f j e = f * (columnWeight j rows * rowDistance) + 64 * 2 ^ 30 ≤ e * (64 *
 room : Room 10 0 (proved .ut1) × Room 1000 2 (proved .lod) × Room 100 4 (proved .rate)
 room = (lit≤ tt, lit≤ tt, lit≤ tt)
 
+-- a quarter of turnParts
 quarter : ℕ
 quarter = 900_000_000_000 * century ^ 4
 
@@ -69,7 +71,7 @@ module _ (d : ℤ) (i m : ℕ) (hd : d ≡ pos i -ℤ pos indexOffset) (hi : i <
   pub corrections-near : Within proved n (correctionsAt i m)
   unfolding correctionsAt
   corrections-near = record {
-    some = sineDen-positive turnParts (lit≤ tt);
+    positive = sineDen-positive turnParts (lit≤ tt);
     ut1 = rw (ut1-is (rowSine x) (rowCosine x), ut1-is (exactRowSine n) (exactRowCosine n)) (number-near 10 0 (proved .ut1) (rowSine x) (rowCosine x) (exactRowSine n) (exactRowCosine n) (room .0) row-sine row-cosine);
     lod = rw (lod-is (rowSine x) (rowCosine x), lod-is (exactRowSine n) (exactRowCosine n)) (number-near 1000 2 (proved .lod) (rowCosine x) (rowSine x) (exactRowCosine n) (exactRowSine n) (room .1) row-cosine row-sine);
     rate = rw (rate-is (rowSine x) (rowCosine x), rate-is (exactRowSine n) (exactRowCosine n)) (number-near 100 4 (proved .rate) (rowCosine x) (rowSine x) (exactRowCosine n) (exactRowSine n) (room .2) row-cosine row-sine);
@@ -78,7 +80,7 @@ module _ (d : ℤ) (i m : ℕ) (hd : d ≡ pos i -ℤ pos indexOffset) (hi : i <
 -- a wider distance
 pub within-wide : {e e′ : Distances} {n : ℤ} {c : Corrections} → e .ut1 ≤ e′ .ut1 → e .lod ≤ e′ .lod → e .rate ≤ e′ .rate → Within e n c → Within e′ n c
 within-wide h k l w = record {
-  some = w .some;
+  positive = w .positive;
   ut1 = near-wide (w .ut1) (N.mul-le-mul-right denominator h);
   lod = near-wide (w .lod) (N.mul-le-mul-right denominator k);
   rate = near-wide (w .rate) (N.mul-le-mul-right denominator l);

@@ -35,7 +35,7 @@ accepted-answered d m a = record {
   within = within-wide (lit≤ tt) (lit≤ tt) (lit≤ tt) (accepted-near d m a);
 }
 
--- PROMISE. Only an accepted instant is answered.
+-- only an accepted instant is answered
 pub given-accepted : (d : ℤ) (m : ℕ) (c : Corrections) → zonalOf d m ≡ Zonal c → IsAccepted d m × (c ≡ correctionsAt (dayIndex d) m)
 unfolding zonalOf
 given-accepted d m c e =

@@ -1,4 +1,6 @@
--- How large the sums and the three numbers are: each sum fits 64 bits at every row, and each number 32 bits, at every moment.
+-- How large the sums and the three numbers are: each sum fits 64 bits at every row, and each number 32 bits, at every moment. A sum over rows is at
+-- most the weights of its two columns times `sineMost`, the most that a sine or cosine is; the weights of all rows are at most 62 times 2^25, and
+-- for the three numbers they are computed.
 -- Assumes nothing.
 use Prim.Native.Nat.{ℕ, zero, suc, _+_, _*_, _/_, _^_, _≤_, _<_}
 use native.Mathlib.Nat as N
@@ -12,7 +14,7 @@ use mir.Val.{SFits}
 use Rattle.algebra.proofs.Order.{abs-mul, abs-add}
 use Rattle.instants.specs.Moments.{moment}
 use Rattle.arguments.specs.Ours.{ourAngle}
-use Rattle.arguments.proofs.Rows.{coefficient-small}
+use Rattle.zonal.proofs.Coefficients.{coefficient-small}
 use Rattle.sine.proofs.Sizes as sizes
 use Rattle.sine.proofs.Sizes.{sineMost}
 use Rattle.zonal.specs.declared.Corrections.{Corrections}
@@ -91,7 +93,7 @@ pub record Fit (c : Corrections) : Type 0 where
   pub lod : SFits w32 (c .lod)
   pub rate : SFits w32 (c .rate)
 
--- PROMISE. The three numbers fit 32 bits with a sign, at any moment.
+-- the three numbers fit, at any moment
 pub corrections-fit : (i m : ℕ) → Fit (correctionsAt i m)
 unfolding correctionsAt
 corrections-fit i m = record {

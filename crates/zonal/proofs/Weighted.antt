@@ -1,4 +1,5 @@
--- Sums over rows with two weights a row: how large they are, and how near two of them are whose sines and cosines are near, row by row.
+-- Sums over rows with two weights a row: how large they are, and how near two of them are whose sines and cosines are near, row by row. Both go
+-- by induction on the rows: one row more adds its two weights times the bound, or the distance, of a sine.
 -- Assumes nothing.
 use mathlib.Core.Path.{_≡_, refl}
 use Prim.Native.Nat.{ℕ, zero, suc, _+_, _*_, _^_, _≤_, _<_}

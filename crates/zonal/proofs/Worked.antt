@@ -57,7 +57,7 @@ our-next : correctionsAt 149019 0 ≡ corrections (+ 79837323) (− 67358353) (+
 unfolding correctionsAt ut1Sum lodSum rateSum ourSine ourCosine wholeTurn quarterTurn sineQuarter alternating
 our-next = refl
 
--- PROMISE. Our answer to the test case of RG_ZONT2.
+-- our answer to the test case of RG_ZONT2
 pub case-answered : zonalOf (+ 54465) 0 ≡ Zonal (corrections (+ 79832877) (+ 50353031) (− 4249712))
 unfolding dayIndex
 case-answered = rw (accepted-given (+ 54465) 0 case-accepted) (ap Zonal our-case)
@@ -84,9 +84,9 @@ near-ours : (d : ℤ) (m : ℕ) (c : Corrections) (a b r : ℤ) → IsAccepted d
 near-ours d m c a b r h e w =
     let o : Within proved (sinceJ2000 d m) (corrections a b r) = subst (λ (s : Corrections). Within proved (sinceJ2000 d m) s) e (accepted-near d m h) in
     record {
-      ut1 = numbers-near denominator (promised .ut1) (proved .ut1) (c .ut1) a (exactUt1 (sinceJ2000 d m)) (w .some) (w .ut1) (o .ut1);
-      lod = numbers-near denominator (promised .lod) (proved .lod) (c .lod) b (exactLod (sinceJ2000 d m)) (w .some) (w .lod) (o .lod);
-      rate = numbers-near denominator (promised .rate) (proved .rate) (c .rate) r (exactRate (sinceJ2000 d m)) (w .some) (w .rate) (o .rate);
+      ut1 = numbers-near denominator (promised .ut1) (proved .ut1) (c .ut1) a (exactUt1 (sinceJ2000 d m)) (w .positive) (w .ut1) (o .ut1);
+      lod = numbers-near denominator (promised .lod) (proved .lod) (c .lod) b (exactLod (sinceJ2000 d m)) (w .positive) (w .lod) (o .lod);
+      rate = numbers-near denominator (promised .rate) (proved .rate) (c .rate) r (exactRate (sinceJ2000 d m)) (w .positive) (w .rate) (o .rate);
     }
 
 case-near : (c : Corrections) → Within promised (sinceJ2000 (+ 54465) 0) c → NearOurs c (+ 79832877) (+ 50353031) (− 4249712)
@@ -112,6 +112,6 @@ no-constant c c′ w w′ =
       λ e. apart (c .rate) (− 4249712) (+ 5684997) (n .rate) (rw e (m .rate)) (lit≤ tt),
     )
 
--- PROMISE. Zeros are not within the promised distances on day 54465.
+-- zeros are not within the promised distances on day 54465
 pub no-zeros : Within promised (sinceJ2000 (+ 54465) 0) (corrections (+ 0) (+ 0) (+ 0)) → ⊥
 no-zeros w = N.lt-irrefl _ (N.lt-of-le-of-lt (case-near (corrections (+ 0) (+ 0) (+ 0)) w .ut1 .by) (lit≤ tt))

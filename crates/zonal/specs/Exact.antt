@@ -5,7 +5,7 @@ use Prim.Native.Nat.{ℕ}
 use lib.IntN.{ℤ, _+ℤ_, _*ℤ_}
 use lib.ListN.{getD}
 use Rattle.algebra.specs.Integers.{+_, sumℤ}
-use Rattle.arguments.specs.Table.{coefficients}
+use Rattle.zonal.specs.Coefficients.{coefficients}
 use Rattle.arguments.specs.Exact.{turnParts, exactAngle}
 use Rattle.sine.specs.Exact.{sineDen, exactSine, exactCosine}
 

@@ -4,7 +4,7 @@ use mathlib.Core.Path.{_≡_}
 use mathlib.Core.List.{List}
 use Prim.Native.Nat.{ℕ, _+_, _-_, _^_, _≤_, _<_}
 use lib.IntN.{ℤ, _+ℤ_, _*ℤ_, natAbs}
-use Rattle.arguments.specs.Table.{coefficients}
+use Rattle.zonal.specs.Coefficients.{coefficients}
 use Rattle.zonal.specs.declared.Sums.{Sums}
 use Rattle.zonal.specs.Exact.{rows, coefficient, ut1Sum, lodSum, rateSum}
 use Rattle.zonal.specs.Ours.{rowSine, rowCosine}

@@ -1,4 +1,5 @@
--- Service (e): zonal-tide corrections. Read Exact, Ours, Within; Inner serves the code's own contracts.
+-- Service (e): zonal-tide corrections. Read Coefficients, Exact, Ours, Within; Inner serves the code's own contracts.
+pub mod Coefficients
 pub mod Exact
 pub mod Ours
 pub mod Within

@@ -26,7 +26,7 @@ promised = distances 20 200 20
 
 -- The numbers c are within the distances e of the exact sums at n microseconds since J2000.0.
 pub record Within (e : Distances) (n : ℤ) (c : Corrections) : Type 0 where
-  pub some : 0 < denominator
+  pub positive : 0 < denominator
   pub ut1 : Near (c .ut1 *ℤ + denominator) (exactUt1 n) (e .ut1 * denominator)
   pub lod : Near (c .lod *ℤ + denominator) (exactLod n) (e .lod * denominator)
   pub rate : Near (c .rate *ℤ + denominator) (exactRate n) (e .rate * denominator)

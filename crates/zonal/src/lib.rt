@@ -8,7 +8,8 @@ ghost use Prim.Native.Nat.{_≤_, _<_};
 ghost use lib.IntN.{natAbs, _+ℤ_, _*ℤ_};
 ghost use Rattle.instants.specs.Limits.{dayMicros, daysCovered};
 ghost use Rattle.instants.specs.Moments.{latest};
-ghost use Rattle.arguments.specs.Table.{multipliers, coefficients};
+ghost use Rattle.arguments.specs.Table.{multipliers};
+ghost use Rattle.zonal.specs.Coefficients.{coefficients};
 ghost use Rattle.zonal.specs.Ours as ours;
 ghost use Rattle.zonal.specs.Inner.{term, productMost, RowBounds, sumsAt};
 
@@ -19,6 +20,7 @@ pub struct Corrections {
     pub rate: i32,
 }
 
+// The three numbers, or the number of a refusal.
 pub enum ZonalAnswer {
     Zonal(Corrections),
     NoZonal(u32),
@@ -61,7 +63,8 @@ fn sum_rows(k: &[[i8; 5]; 62], t: &[[i64; 6]; 62], x: u64) -> Sums
     Sums { ut1, lod, rate }
 }
 
-// The sums at a moment. Each part of the table is named in one of these two functions and nowhere else, so that it is made once for an instant.
+// The sums at a moment, with the multipliers lent. Each part of the table is named in one of these two functions and nowhere else, so that it is
+// made once for an instant.
 fn sums_with(k: &[[i8; 5]; 62], x: u64) -> Sums
     requires { ⌜ (now k ≡ multipliers) × (x ≤ latest) ⌝ }
     ensures { λ r. ⌜ r ≡ sumsAt x ⌝ }
@@ -70,6 +73,7 @@ fn sums_with(k: &[[i8; 5]; 62], x: u64) -> Sums
     sum_rows(k, &t, x)
 }
 
+// The sums at a moment.
 fn table_sums(x: u64) -> Sums
     requires { ⌜ x ≤ latest ⌝ }
     ensures { λ r. ⌜ r ≡ sumsAt x ⌝ }
@@ -78,16 +82,19 @@ fn table_sums(x: u64) -> Sums
     sums_with(&k, x)
 }
 
-// f times a sum, to the nearest whole number.
+// A half, in units of 2^-31.
+const HALF: i64 = 1 << 30;
+
+// f times a sum in units of 2^-31, to the nearest whole number.
 fn rounded(f: i64, v: i64) -> i32
     requires { ⌜ natAbs (f *ℤ v) ≤ productMost ⌝ }
     ensures { λ r. ⌜ r ≡ ours.rounded f v ⌝ }
 {
-    ((f * v + 1073741824) >> 31) as i32
+    ((f * v + HALF) >> 31) as i32
 }
 
 // The corrections of a day's index, counted from 1600-01-01, and the microseconds of that day.
-pub fn corrections_at(index: u64, micros: u64) -> Corrections
+fn corrections_at(index: u64, micros: u64) -> Corrections
     requires { ⌜ (index < daysCovered) × (micros < dayMicros) ⌝ }
     ensures { λ r. ⌜ r ≡ ours.correctionsAt index micros ⌝ }
 {

@@ -4,19 +4,21 @@ use zonal::ZonalAnswer;
 
 // A signed number and 2^31, so that it is not negative.
 fn raised(z: i32) -> u64 {
-    (z as i64 + 2147483648) as u64
+    (z as i64 + 0x8000_0000) as u64
 }
 
+// A signed number in decimal.
 fn print_signed(z: i32) {
     let u = raised(z);
-    if u < 2147483648 {
+    if u < 0x8000_0000 {
         io::write_all(STDOUT_FILENO, b"-");
-        io::print_decimal(STDOUT_FILENO, 2147483648 - u);
+        io::print_decimal(STDOUT_FILENO, 0x8000_0000 - u);
     } else {
-        io::print_decimal(STDOUT_FILENO, u - 2147483648);
+        io::print_decimal(STDOUT_FILENO, u - 0x8000_0000);
     }
 }
 
+// How far apart two numbers are.
 fn apart(a: i32, b: i32) -> u64 {
     let u = raised(a);
     let v = raised(b);
@@ -39,6 +41,7 @@ fn compare(name: &[u8], ours: i32, printed: &[u8], theirs: i32, limit: u64) {
     io::write_all(STDOUT_FILENO, b"\n");
 }
 
+// The three numbers, each compared.
 fn main() {
     match zonal::zonal_of(54465, 0) {
         ZonalAnswer::Zonal(c) => {

@@ -1,4 +1,5 @@
--- `arguments::angle` meets its contract. The loop's invariant: what is summed and what the columns from j on come to are the whole sum.
+-- `arguments::angle` meets its contract. The loop's invariant: what is summed and what the columns from j on come to are the whole sum, and what is
+-- summed is at most 2^44 a column, so that it fits. After the last column nothing is left. A place named `top` is the loop's test, `start` the entry.
 -- Assumes nothing.
 use mathlib.Core.Path.{_≡_, sym, _∙_, ap, subst}
 use mathlib.Core.List.{List, []}
@@ -61,9 +62,11 @@ array-read-column c = search needs
 
 column-requires : tie.Need-column-requires Inv-loop μ-loop
 column-requires c κs =
-    let s = c .before .before .before in (
-      subst (λ (z : ℤ). Multiplier z) (sym (read (s .args .row) (c .before .before .loop .j) (s .pre .1) (s .pre .0))) (row-range (s .args .row) (s .pre .1) (c .before .before .loop .j)),
-      s .pre .2 (c .before .before .loop .j),
+    let top = c .before .before in
+    let start = top .before in
+    let j = top .loop .j in (
+      subst (λ (z : ℤ). Multiplier z) (sym (read (start .args .row) j (start .pre .1) (start .pre .0))) (row-range (start .args .row) (start .pre .1) j),
+      start .pre .2 j,
     )
 
 add-sum : tie.Need-add-sum Inv-loop μ-loop
@@ -77,21 +80,26 @@ loop-less c = omega arith
 
 loop-again : tie.Need-loop-again Inv-loop μ-loop
 loop-again c =
-    let h = c .before .before .before .loop .inv in
-    let s = c .before .before .before .before in
-    let j = c .before .before .before .loop .j in
-    let long : length (s .args .t3) ≡ 5 = search needs in (
+    let body = c .before .before in
+    let top = body .before in
+    let start = top .before in
+    let ks = getD multipliers (start .args .row) [] in
+    let xs = start .args .t3 in
+    let long : length xs ≡ 5 = search needs in (
       omega arith,
       omega (arith, c .column .ensures .1),
-      columns-next (getD multipliers (s .args .row) []) (s .args .t3) (c .before .before .before .loop .sum)
-          (c .column .result) (columns (getD multipliers (s .args .row) []) (s .args .t3)) j
-          (row-length (s .args .row) (s .pre .1)) long (c .before .before .loop-test .taken)
-          (c .column .ensures .0 ∙ ap (λ (z : ℤ). column z (getD (s .args .t3) j 0)) (read (s .args .row) j (s .pre .1) (s .pre .0)))
-          (h .2),
+      columns-next ks xs (top .loop .sum) (c .column .result) (columns ks xs) (top .loop .j)
+          (row-length (start .args .row) (start .pre .1)) long (body .loop-test .taken)
+          (c .column .ensures .0 ∙ ap (λ (z : ℤ). column z (getD xs (top .loop .j) 0)) (read (start .args .row) (top .loop .j) (start .pre .1) (start .pre .0)))
+          (top .loop .inv .2),
     )
 
 returns : tie.Need-returns Inv-loop μ-loop
-returns c = ap (λ (n : ℕ). n % 2 ^ 41) (omega (arith, columns-end (getD multipliers (c .before .before .args .row) []) (c .before .before .args .t3) (c .before .loop .j) (omega (arith, row-length (c .before .before .args .row) (c .before .before .pre .1)))))
+returns c =
+    let top = c .before in
+    let start = top .before in
+    ap (λ (n : ℕ). n % 2 ^ 41)
+    (omega (arith, columns-end (getD multipliers (start .args .row) []) (start .args .t3) (top .loop .j) (omega (arith, row-length (start .args .row) (start .pre .1)))))
 
 pub angle-spec : {M : Type 1} → statement M
 angle-spec =

@@ -1,7 +1,7 @@
 -- `arguments::high` meets its contract: the product by its columns of 32 bits, each with the carry of the one below.
 -- Assumes nothing.
 use mathlib.Core.Path.{_≡_, sym, _∙_, ap₂}
-use Prim.Native.Nat.{ℕ, _+_, _*_, _/_, _%_, _^_, _≤_, _<_}
+use Prim.Native.Nat.{ℕ, _+_, _*_, _-_, _/_, _%_, _^_, _≤_, _<_}
 use native.Mathlib.Nat.{mul-le-mul, div-add-mod'}
 use native.Mathlib.Omega.{arith}
 use Rattle.algebra.proofs.Ring.{end, _▹_, ringN, quoteN}
@@ -9,29 +9,29 @@ use Rattle.arguments.proofs.high.Statement.{statement}
 use Rattle.arguments.proofs.high.Tie as tie
 
 -- the product of two halves
-pub small : {x y : ℕ} → x ≤ 4294967295 → y ≤ 4294967295 → x * y ≤ 18446744065119617025
+pub small : {x y : ℕ} → x ≤ 2 ^ 32 - 1 → y ≤ 2 ^ 32 - 1 → x * y ≤ (2 ^ 32 - 1) * (2 ^ 32 - 1)
 small h k = mul-le-mul h k
 
-upper : {a : ℕ} → a < 2 ^ 64 → a / 4294967296 ≤ 4294967295
+upper : {a : ℕ} → a < 2 ^ 64 → a / 2 ^ 32 ≤ 2 ^ 32 - 1
 upper h = omega arith
 
-lower : (a : ℕ) → a % 4294967296 ≤ 4294967295
+lower : (a : ℕ) → a % 2 ^ 32 ≤ 2 ^ 32 - 1
 lower a = omega arith
 
-columns : (a b : ℕ) → a * b ≡ a / 4294967296 * (b / 4294967296) * 18446744073709551616
-    + (a / 4294967296 * (b % 4294967296) + a % 4294967296 * (b / 4294967296)) * 4294967296 + a % 4294967296 * (b % 4294967296)
-columns a b = ap₂ _*_ (sym (div-add-mod' a 4294967296)) (sym (div-add-mod' b 4294967296)) ∙ alg (a / 4294967296) (a % 4294967296) (b / 4294967296) (b % 4294967296)
+columns : (a b : ℕ) → a * b ≡ a / 2 ^ 32 * (b / 2 ^ 32) * 2 ^ 64
+    + (a / 2 ^ 32 * (b % 2 ^ 32) + a % 2 ^ 32 * (b / 2 ^ 32)) * 2 ^ 32 + a % 2 ^ 32 * (b % 2 ^ 32)
+columns a b = ap₂ _*_ (sym (div-add-mod' a (2 ^ 32))) (sym (div-add-mod' b (2 ^ 32))) ∙ alg (a / 2 ^ 32) (a % 2 ^ 32) (b / 2 ^ 32) (b % 2 ^ 32)
   where
-    alg : (p q r s : ℕ) → (p * 4294967296 + q) * (r * 4294967296 + s) ≡ p * r * 18446744073709551616 + (p * s + q * r) * 4294967296 + q * s
+    alg : (p q r s : ℕ) → (p * 2 ^ 32 + q) * (r * 2 ^ 32 + s) ≡ p * r * 2 ^ 64 + (p * s + q * r) * 2 ^ 32 + q * s
     alg p q r s = ringN (p ▹ q ▹ r ▹ s ▹ end) (search quoteN depth 13) tt
 
 abbrev middle : ℕ → ℕ → ℕ
-middle a b = a / 4294967296 * (b % 4294967296) + a % 4294967296 * (b % 4294967296) / 4294967296
+middle a b = a / 2 ^ 32 * (b % 2 ^ 32) + a % 2 ^ 32 * (b % 2 ^ 32) / 2 ^ 32
 
 abbrev next : ℕ → ℕ → ℕ
-next a b = a % 4294967296 * (b / 4294967296) + middle a b % 4294967296
+next a b = a % 2 ^ 32 * (b / 2 ^ 32) + middle a b % 2 ^ 32
 
-law : (a b : ℕ) → a / 4294967296 * (b / 4294967296) + middle a b / 4294967296 + next a b / 4294967296 ≡ a * b / 2 ^ 64
+law : (a b : ℕ) → a / 2 ^ 32 * (b / 2 ^ 32) + middle a b / 2 ^ 32 + next a b / 2 ^ 32 ≡ a * b / 2 ^ 64
 law a b = omega (arith, columns a b)
 
 mul-middle : tie.Need-mul-middle

@@ -1,4 +1,4 @@
--- `tide::arguments_at` meets its contract. Assumes nothing.
+-- `tide::arguments_at` meets its contract: the day number of an accepted instant is one of binary64. Assumes nothing.
 use native.Mathlib.Nat.{le-trans}
 use borrow.Author.Needs.{needs}
 use lib.Dec.{lit≤}

@@ -1,3 +1,4 @@
+-- `tide::arguments_of` meets its contract: the five polynomials are what `quartic` ensures, and the rest is the definition. Assumes nothing.
 use lib.Ieee.{neg, ofInt, ofBits}
 use Rattle.tide.specs.Binary64.{decimal}
 use Rattle.tide.specs.Delaunay.{F1, F2, F3, F4, F5, FD1, FD2, FD3, FD4, FD5}
@@ -23,7 +24,11 @@ quartic-requires-5 c κs = search needs
 
 returns : tie.Need-returns
 unfolding argumentsOf F1 F2 F3 F4 F5 FD1 FD2 FD3 FD4 FD5 decimal ofInt ofBits neg
-returns c = rw (c .quartic5 .ensures, c .before .quartic4 .ensures, c .before .before .quartic3 .ensures, c .before .before .before .quartic2 .ensures, c .before .before .before .before .quartic .ensures)
+returns c =
+    let four = c .before in
+    let three = four .before in
+    let two = three .before in
+    rw (c .quartic5 .ensures, four .quartic4 .ensures, three .quartic3 .ensures, two .quartic2 .ensures, two .before .quartic .ensures)
 
 pub arguments-of-spec : {M : Type 1} → statement M
 arguments-of-spec =

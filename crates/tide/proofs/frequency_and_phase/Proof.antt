@@ -1,13 +1,31 @@
--- `tide::frequency_and_phase` meets its contract. Assumes nothing.
-use mathlib.Core.Path.{_∙_, ap, sym}
+-- `tide::frequency_and_phase` meets its contract, by the two cases of acceptance. Assumes nothing.
+use mathlib.Core.Path.{_≡_, _∙_, ap, sym}
 use borrow.Author.Needs.{needs}
+use lib.IntN.{ℤ}
 use mir.Facts.{toZ-ofZ}
 use Rattle.instants.specs.declared.Acceptance.the-variants.{Accepted}
+use Rattle.instants.specs.Instants.{acceptance, dayIndex}
 use Rattle.instants.proofs.Accepted.{accepted-at, refused-too, answered-too}
 use Rattle.tide.specs.declared.TideAnswer.the-variants.{NoTide}
 use Rattle.tide.specs.Tidal.{answerOf, tideOf}
 use Rattle.tide.proofs.frequency_and_phase.Statement.{statement}
 use Rattle.tide.proofs.frequency_and_phase.Tie as tie
+
+says : (c : tie.After-accept) → c .accept .result ≡ acceptance (c .before .args .day) (c .before .args .micros)
+says c = c .accept .ensures ∙ ap (λ (d : ℤ). acceptance d (c .before .args .micros)) (toZ-ofZ (c .before .fits .day))
+
+-- where the instant is accepted
+module _ (c : tie.After-enum-told) where
+  abbrev asked : tie.After-accept
+  asked = c .before .before
+
+  abbrev start : tie.Start
+  start = asked .before
+
+  found : acceptance (start .args .day) (start .args .micros) ≡ Accepted (dayIndex (start .args .day))
+  found =
+      let e = sym (says asked) ∙ c .enum-told .given .1 in
+      e ∙ ap Accepted (sym (accepted-at _ _ _ e .index))
 
 accept-requires : tie.Need-accept-requires
 accept-requires c κs = search needs
@@ -16,10 +34,7 @@ enum-told : tie.Need-enum-told
 enum-told c = search needs
 
 arguments-at-requires : tie.Need-arguments-at-requires
-arguments-at-requires c κs =
-    let k = c .before .before in
-    let e = sym (k .accept .ensures) ∙ c .enum-told .given .1 in
-    e ∙ ap Accepted (sym (accepted-at _ _ _ e .index))
+arguments-at-requires c κs = rw (toZ-ofZ (start c .fits .day)) (found c)
 
 answer-from-requires : tie.Need-answer-from-requires
 answer-from-requires c κs = search needs
@@ -30,16 +45,12 @@ enum-known-n c = search needs
 returns : tie.Need-returns
 unfolding tideOf answerOf
 returns c =
-    let k = c .before .before .before .before in
-    let e = toZ-ofZ (k .before .fits .day) in
-    rw (c .answer-from .ensures, c .before .arguments-at .ensures, e)
-    (answered-too NoTide _ _ _ (rw e at (sym (k .accept .ensures) ∙ c .before .before .enum-told .given .1)))
+    let k = c .before .before in
+    rw (c .answer-from .ensures, c .before .arguments-at .ensures, toZ-ofZ (start k .fits .day)) (answered-too NoTide _ _ _ (found k))
 
 returns-2 : tie.Need-returns-2
 unfolding tideOf
-returns-2 c =
-    let k = c .before .before .before in
-    refused-too NoTide _ _ _ (rw (toZ-ofZ (k .before .fits .day)) at (sym (k .accept .ensures) ∙ c .before .n .given .1))
+returns-2 c = refused-too NoTide _ _ _ (sym (says (c .before .before .before)) ∙ c .before .n .given .1)
 
 pub frequency-and-phase-spec : {M : Type 1} → statement M
 frequency-and-phase-spec =

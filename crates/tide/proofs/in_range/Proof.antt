@@ -1,4 +1,4 @@
--- `tide::in_range` meets its contract. Assumes nothing.
+-- `tide::in_range` meets its contract, by the two tests of the definition. Assumes nothing.
 use mathlib.Core.Path.{sym, ap}
 use mathlib.Core.Bool.{Bool, _&&_}
 use lib.IntN.{pos}

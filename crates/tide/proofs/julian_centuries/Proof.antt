@@ -1,4 +1,4 @@
--- `tide::julian_centuries` meets its contract. Assumes nothing.
+-- `tide::julian_centuries` meets its contract, by the definition: the day is read back as it was. Assumes nothing.
 use mathlib.Core.Path.{sym, subst}
 use lib.Dec.{T}
 use lib.IntN.{ℤ}

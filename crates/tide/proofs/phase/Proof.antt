@@ -1,4 +1,4 @@
--- `tide::phase` meets its contract. Assumes nothing.
+-- `tide::phase` meets its contract, by the two kinds of answer. Assumes nothing.
 use mathlib.Core.Path.{ap, sym}
 use borrow.Author.Needs.{needs}
 use lib.Ieee.{ofBits}

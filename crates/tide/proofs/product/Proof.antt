@@ -1,4 +1,4 @@
--- `tide::product` meets its contract. Assumes nothing.
+-- `tide::product` meets its contract: a multiplier in range is a number of binary64. Assumes nothing.
 use native.Mathlib.Nat.{le-trans}
 use lib.Dec.{lit≤}
 use mir.Facts.{toZ-ofZ}

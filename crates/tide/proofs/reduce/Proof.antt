@@ -1,3 +1,4 @@
+-- `tide::reduce` meets its contract, by the test of the definition. Assumes nothing.
 use borrow.Author.Needs.{needs}
 use lib.Ieee.{ofInt, ofBits}
 use Rattle.tide.specs.Tidal.{raised, reduced, turn}

@@ -1,3 +1,4 @@
+-- `tide::settle` meets its contract, by the two tests of the definition. Assumes nothing.
 use lib.Ieee.{ofInt, ofBits}
 use Rattle.tide.specs.Tidal.{settled, turn}
 use Rattle.tide.proofs.settle.Statement.{statement}

@@ -16,24 +16,37 @@ use Rattle.zonal.specs.Exact.{ut1Sum, lodSum, rateSum}
 use Rattle.zonal.specs.Ours.{rowSine, rowCosine, rounded, corrections, correctionsAt}
 use Rattle.zonal.specs.Inner.{sumMost, productMost, sumsAt}
 use Rattle.zonal.proofs.Sizes.{Small, ut1-small, lod-small, rate-small, rounded-fits}
-use Rattle.zonal.proofs.Signed.{R, given}
+use Rattle.algebra.proofs.Bits.{readBack, read-as}
 use Rattle.zonal.proofs.corrections_at.Statement.{statement}
 use Rattle.zonal.proofs.corrections_at.Tie as tie
 
 -- one number: y is a sum that is returned, and z the sum that it is
 module _ (f : ℕ) {y z : ℤ} (e : y ≡ z) (h : Small f z) where
-  read : R y ≡ z
-  read = ap R e ∙ given z sumMost (h .sum) (lit≤ tt) .is
+  read : readBack y ≡ z
+  read = read-as sumMost e (h .sum) (lit≤ tt)
 
-  ready : natAbs (pos f *ℤ R y) ≤ productMost
+  ready : natAbs (pos f *ℤ readBack y) ≤ productMost
   ready = le-trans (le-of-eq (ap (λ (v : ℤ). natAbs (pos f *ℤ v)) read)) (h .product)
 
-  number : {n : ℤ} → n ≡ rounded (pos f) (R y) → toZ w32 (ofZ w32 n) ≡ rounded (pos f) z
+  number : {n : ℤ} → n ≡ rounded (pos f) (readBack y) → toZ w32 (ofZ w32 n) ≡ rounded (pos f) z
   number i = ap (λ (m : ℤ). toZ w32 (ofZ w32 m)) (i ∙ ap (rounded (pos f)) read) ∙ toZ-ofZ {w = w32} (rounded-fits (pos f) z (h .product))
 
+-- the sums, and the three calls that round them, one after the other
+abbrev summed : tie.After-rounded → tie.After-table-sums
+summed c = c .before .before
+
+abbrev first : tie.After-rounded2 → tie.After-rounded
+first c = c .before .before
+
+abbrev second : tie.After-rounded3 → tie.After-rounded2
+second c = c .before .before
+
 module _ (c : tie.After-table-sums) where
+  abbrev start : tie.Start
+  start = c .before .before
+
   abbrev x : ℕ
-  x = moment (c .before .before .args .index) (c .before .before .args .micros)
+  x = moment (start .args .index) (start .args .micros)
 
   sums : c .table-sums .result ≡ sumsAt x
   sums = c .table-sums .ensures ∙ ap sumsAt (c .before .moment .ensures)
@@ -60,10 +73,10 @@ rounded-requires : tie.Need-rounded-requires
 rounded-requires c κs = let s = c .before in ready 10 (ut1 s) (ut1-small (x s))
 
 rounded-requires-2 : tie.Need-rounded-requires-2
-rounded-requires-2 c κs = let s = c .before .before .before in ready 1000 (lod s) (lod-small (x s))
+rounded-requires-2 c κs = let s = summed (c .before) in ready 1000 (lod s) (lod-small (x s))
 
 rounded-requires-3 : tie.Need-rounded-requires-3
-rounded-requires-3 c κs = let s = c .before .before .before .before .before in ready 100 (rate s) (rate-small (x s))
+rounded-requires-3 c κs = let s = summed (first (c .before)) in ready 100 (rate s) (rate-small (x s))
 
 same : {a b c a′ b′ c′ : ℤ} → a ≡ a′ → b ≡ b′ → c ≡ c′ → corrections a b c ≡ corrections a′ b′ c′
 same p q r = λ i. corrections (p i) (q i) (r i)
@@ -71,9 +84,9 @@ same p q r = λ i. corrections (p i) (q i) (r i)
 returns : tie.Need-returns
 unfolding correctionsAt
 returns c =
-    let s = c .before .before .before .before .before .before in
-    same (number 10 (ut1 s) (ut1-small (x s)) (c .before .before .before .before .rounded .ensures))
-    (number 1000 (lod s) (lod-small (x s)) (c .before .before .rounded2 .ensures))
+    let s = summed (first (second c)) in
+    same (number 10 (ut1 s) (ut1-small (x s)) (first (second c) .rounded .ensures))
+    (number 1000 (lod s) (lod-small (x s)) (second c .rounded2 .ensures))
     (number 100 (rate s) (rate-small (x s)) (c .rounded3 .ensures))
 
 pub corrections-at-spec : {M : Type 1} → statement M

@@ -1,4 +1,5 @@
--- `zonal::sum_rows` meets its contract. The loop's invariant: each total is the sum over the rows passed.
+-- `zonal::sum_rows` meets its contract. The loop's invariant: each total, read from its bits, is the sum over the rows passed. A row's angle, sine
+-- and cosine are those of the definition, and the sum with one row more stays within its bound, so that it is read back as it is.
 -- Assumes nothing.
 use mathlib.Core.Path.{_≡_, sym, _∙_, ap, ap₂, subst}
 use mathlib.Core.List.{List, []}
@@ -13,7 +14,8 @@ use lib.ListN.{getD}
 use mir.Syntax.{w64}
 use mir.Val.{toZ}
 use borrow.Author.Needs.{needs}
-use Rattle.arguments.specs.Table.{multipliers, coefficients}
+use Rattle.arguments.specs.Table.{multipliers}
+use Rattle.zonal.specs.Coefficients.{coefficients}
 use Rattle.arguments.specs.Ours.{ourAngle, ourArguments, columns}
 use Rattle.arguments.proofs.Bounds.{arguments-less}
 use Rattle.arguments.proofs.Distance.{our-angle-less}
@@ -25,7 +27,7 @@ use Rattle.zonal.specs.Ours.{rowSine, rowCosine}
 use Rattle.zonal.specs.Inner.{term, sumMost, RowBounds, sumsAt}
 use Rattle.zonal.proofs.Weighted.{weighted, weighted-zero, weighted-next, ut1-is, lod-is, rate-is}
 use Rattle.zonal.proofs.Sizes.{sine-most, cosine-most, weighted-most}
-use Rattle.zonal.proofs.Signed.{R, given}
+use Rattle.algebra.proofs.Bits.{readBack, read-as}
 use Rattle.zonal.proofs.sum_rows.Statement.{statement}
 use Rattle.zonal.proofs.sum_rows.Tie as tie
 
@@ -62,43 +64,50 @@ module _ (p q : ℕ → ℤ) (j r : ℕ) (hp : (r : ℕ) → natAbs (p r) ≤ si
     second = lt-of-le-of-lt (below ez (hq r)) (lit≤ tt);
   }
 
-  next : {s : ℤ} → s ≡ v +ℤ term r j y z → R s ≡ weighted p q j (r + 1)
+  next : {s : ℤ} → s ≡ v +ℤ term r j y z → readBack s ≡ weighted p q j (r + 1)
   next e =
-      ap R (e ∙ ap₂ _+ℤ_ ev (ap₂ (λ (a b : ℤ). term r j a b) ey ez) ∙ sym (weighted-next p q j r))
-      ∙ given (weighted p q j (suc r)) sumMost (weighted-most p q j hp hq (suc r) h) (lit≤ tt) .is ∙ ap (weighted p q j) (sym (add-one r))
+      read-as sumMost (e ∙ ap₂ _+ℤ_ ev (ap₂ (λ (a b : ℤ). term r j a b) ey ez) ∙ sym (weighted-next p q j r)) (weighted-most p q j hp hq (suc r) h) (lit≤ tt)
+      ∙ ap (weighted p q j) (sym (add-one r))
 
 -- ---- the angle, the sine and the cosine of the row
 
 angle-is : {a : List ℕ} (x r b : ℕ) → b ≡ columns (getD multipliers r []) a % 2 ^ 41 → a ≡ ourArguments x → b % 2 ^ 41 ≡ ourAngle r x
 angle-is x r b e h = ap (λ (n : ℕ). n % 2 ^ 41) (e ∙ ap (λ (l : List ℕ). columns (getD multipliers r []) l % 2 ^ 41) h) ∙ N.mod-eq-of-lt (our-angle-less r x)
 
-read : {v z : ℤ} → v ≡ z → natAbs z ≤ sineMost → R v ≡ z
-read {z = z} e h = ap R e ∙ given z sineMost h (lit≤ tt) .is
+-- the places: the entry as it is seen from the loop, and in a turn of the loop its body, the angle's call and the loop's test
+abbrev entry : tie.At-loop Inv-loop μ-loop → tie.Start Inv-loop μ-loop
+entry c = c .before .before
 
 module _ (c : tie.After-cosine Inv-loop μ-loop) where
+  abbrev angled : tie.After-angle Inv-loop μ-loop
+  angled = c .before .before
+
+  abbrev body : tie.In-loop Inv-loop μ-loop
+  body = angled .before
+
   abbrev so-far : tie.At-loop Inv-loop μ-loop
-  so-far = c .before .before .before .before
+  so-far = body .before
 
   abbrev x : ℕ
-  x = so-far .before .before .args .x
+  x = entry so-far .args .x
 
   abbrev row : ℕ
   row = so-far .loop .row
 
-  table : so-far .before .before .args .t .now ≡ coefficients
-  table = so-far .before .before .pre .1
+  table : entry so-far .args .t .now ≡ coefficients
+  table = entry so-far .pre .1
 
   taken : row < rows
-  taken = c .before .before .before .loop-test .taken
+  taken = body .loop-test .taken
 
-  angle : c .before .before .angle .result % 2 ^ 41 ≡ ourAngle row x
-  angle = angle-is x row (c .before .before .angle .result) (c .before .before .angle .ensures) (so-far .before .arguments .ensures)
+  angle : angled .angle .result % 2 ^ 41 ≡ ourAngle row x
+  angle = angle-is x row (angled .angle .result) (angled .angle .ensures) (so-far .before .arguments .ensures)
 
-  sine : R (c .before .sine .result) ≡ rowSine x row
-  sine = read (c .before .sine .ensures ∙ ap ourSine angle) (sine-most x row)
+  sine : readBack (c .before .sine .result) ≡ rowSine x row
+  sine = read-as sineMost (c .before .sine .ensures ∙ ap ourSine angle) (sine-most x row) (lit≤ tt)
 
-  cosine : R (c .cosine .result) ≡ rowCosine x row
-  cosine = read (c .cosine .ensures ∙ ap ourCosine angle) (cosine-most x row)
+  cosine : readBack (c .cosine .result) ≡ rowCosine x row
+  cosine = read-as sineMost (c .cosine .ensures ∙ ap ourCosine angle) (cosine-most x row) (lit≤ tt)
 
 -- ---- the needs
 
@@ -111,11 +120,12 @@ loop-holds c =
     (lit≤ tt, sym (weighted-zero (rowSine x) (rowCosine x) 0), sym (weighted-zero (rowCosine x) (rowSine x) 2), sym (weighted-zero (rowCosine x) (rowSine x) 4))
 
 angle-requires : tie.Need-angle-requires Inv-loop μ-loop
-angle-requires c κs = (
-  c .before .before .before .pre .0,
-  c .loop-test .taken,
-  λ j. subst (λ (l : List ℕ). getD l j 0 ≤ 2 ^ 41) (sym (c .before .before .arguments .ensures)) (le-of-lt (arguments-less (c .before .before .before .args .x) j)),
-)
+angle-requires c κs =
+    let start = entry (c .before) in (
+      start .pre .0,
+      c .loop-test .taken,
+      λ j. subst (λ (l : List ℕ). getD l j 0 ≤ 2 ^ 41) (sym (c .before .before .arguments .ensures)) (le-of-lt (arguments-less (start .args .x) j)),
+    )
 
 sine-requires : tie.Need-sine-requires Inv-loop μ-loop
 sine-requires c κs = search needs
@@ -153,7 +163,7 @@ same p q r = λ i. record { ut1 = p i; lod = q i; rate = r i }
 returns : tie.Need-returns Inv-loop μ-loop
 unfolding sumsAt
 returns c =
-    let x = c .before .before .before .args .x in
+    let x = entry (c .before) .args .x in
     let i = c .before .loop .inv in
     let done : c .before .loop .row ≡ rows = omega arith in
     same (i .1 ∙ ap (ut1At x) done ∙ sym (ut1-is (rowSine x) (rowCosine x))) (i .2 ∙ ap (lodAt x) done ∙ sym (lod-is (rowSine x) (rowCosine x))) (i .3 ∙ ap (rateAt x) done ∙ sym (rate-is (rowSine x) (rowCosine x)))

@@ -1,6 +1,7 @@
--- `zonal::zonal_of` meets its contract, by the two cases of acceptance.
+-- `zonal::zonal_of` meets its contract, by the two cases of acceptance: an accepted instant is given by the day's index and its microseconds.
 -- Assumes nothing.
 use mathlib.Core.Path.{_≡_, sym, _∙_, ap}
+use Prim.Native.Nat.{ℕ}
 use native.Mathlib.Omega.{arith}
 use lib.IntN.{ℤ}
 use mir.Facts.{toZ-ofZ}
@@ -16,11 +17,22 @@ use Rattle.zonal.proofs.zonal_of.Tie as tie
 says : (c : tie.After-accept) → c .accept .result ≡ acceptance (c .before .args .day) (c .before .args .micros)
 says c = c .accept .ensures ∙ ap (λ (d : ℤ). acceptance d (c .before .args .micros)) (toZ-ofZ (c .before .fits .day))
 
-found : (c : tie.After-known-told2) → acceptance (c .before .before .before .before .args .day) (c .before .before .before .before .args .micros) ≡ Accepted (c .before .i .given .0 .0)
-found c = sym (says (c .before .before .before)) ∙ c .before .i .given .1
+-- where the answer is an index
+module _ (c : tie.After-known-told2) where
+  abbrev asked : tie.After-accept
+  asked = c .before .before .before
 
-known : (c : tie.After-known-told2) → AcceptedAt (c .before .before .before .before .args .day) (c .before .before .before .before .args .micros) (c .before .i .given .0 .0)
-known c = accepted-at _ _ _ (found c)
+  abbrev start : tie.Start
+  start = asked .before
+
+  abbrev index : ℕ
+  index = c .before .i .given .0 .0
+
+  found : acceptance (start .args .day) (start .args .micros) ≡ Accepted index
+  found = sym (says asked) ∙ c .before .i .given .1
+
+  known : AcceptedAt (start .args .day) (start .args .micros) index
+  known = accepted-at _ _ _ found
 
 accept-requires : tie.Need-accept-requires
 accept-requires c κs = search needs

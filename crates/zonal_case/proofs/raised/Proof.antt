@@ -19,16 +19,16 @@ record Natural (z : ℤ) : Type 0 where
   less : it < 2 ^ 32
   is : z ≡ pos it
 
-natural : (z : ℤ) → SFits w32 z → Natural (z +ℤ pos 2147483648)
-natural (pos n) h = record { it = n + 2147483648; less = omega (arith, h .sfits); is = refl }
-natural (negsuc n) h = record { it = 2147483648 - suc n; less = omega (arith, h .sfits); is = simp (le-ltb 2147483648 (suc n) (omega (arith, h .sfits))) }
+natural : (z : ℤ) → SFits w32 z → Natural (z +ℤ pos (2 ^ 31))
+natural (pos n) h = record { it = n + 2 ^ 31; less = omega (arith, h .sfits); is = refl }
+natural (negsuc n) h = record { it = 2 ^ 31 - suc n; less = omega (arith, h .sfits); is = simp (le-ltb (2 ^ 31) (suc n) (omega (arith, h .sfits))) }
 
 module _ (z : ℤ) (h : SFits w32 z) where
   wide : SFits w64 (toZ w32 (ofZ w32 z))
   wide = rw (toZ-ofZ {w = w32} h) (record { sfits = lt-of-lt-of-le (h .sfits) (lit≤ tt) })
 
-  sum : toZ w64 (ofZ w64 (toZ w32 (ofZ w32 z))) +ℤ pos 2147483648 ≡ pos (natural z h .it)
-  sum = ap (λ (x : ℤ). x +ℤ pos 2147483648) (toZ-ofZ {w = w64} wide ∙ toZ-ofZ {w = w32} h) ∙ natural z h .is
+  sum : toZ w64 (ofZ w64 (toZ w32 (ofZ w32 z))) +ℤ pos (2 ^ 31) ≡ pos (natural z h .it)
+  sum = ap (λ (x : ℤ). x +ℤ pos (2 ^ 31)) (toZ-ofZ {w = w64} wide ∙ toZ-ofZ {w = w32} h) ∙ natural z h .is
 
   sum-fits : SFits w64 (pos (natural z h .it))
   sum-fits = record { sfits = lt-of-lt-of-le (natural z h .less) (lit≤ tt) }
