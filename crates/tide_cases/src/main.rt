@@ -91,7 +91,7 @@ fn main() {
     show(15020, 0, 0, 0, 0, 0, 0, 0);
     show(51544, 43200000000, 0, 0, 0, 0, 0, 0);
     show(88433, 86399999999, 0, 0, 0, 0, 0, 0);
-    // NoTide by 8, whatever else is wrong.
+    // Refused by 8, whatever else is wrong.
     show(15019, 86399999999, 2, 0, 0, 0, 0, 0);
     show(88434, 0, 0, 0, 0, 0, 0, 0);
     show(-1, 86400000000, 13, 0, 0, 0, 0, 0);
@@ -106,10 +106,10 @@ fn main() {
         0,
         -13,
     );
-    // NoTide by 9, whatever the multipliers.
+    // Refused by 9, whatever the multipliers.
     show(55007, 86400000000, 2, 0, 0, 0, 0, 0);
     show(15020, 18446744073709551615, 0, 0, 0, 0, 0, 13);
-    // NoTide by 11, in each place.
+    // Refused by 11, in each place.
     show(55007, 0, 13, 0, 0, 0, 0, 0);
     show(55007, 0, 0, -13, 0, 0, 0, 0);
     show(55007, 0, 0, 0, 13, 0, 0, 0);
