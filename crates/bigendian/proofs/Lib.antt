@@ -3,4 +3,3 @@ pub mod Puts
 pub mod Signs
 pub mod Numbers
 pub mod Sums
-pub mod Same

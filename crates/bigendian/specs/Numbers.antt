@@ -25,15 +25,6 @@ unfoldable pub wordSum : List ℕ → ℕ → ℕ
 wordSum s zero = 0
 wordSum s (suc k) = wordSum s k + numberAt s (2 * k) 2
 
--- the 32 bits of a signed number: its own, or 2^32 more than a negative number (negsuc n is -1 - n)
-abbrev pub twos32 : ℤ → ℕ
-twos32 (pos n) = n
-twos32 (negsuc n) = 4_294_967_296 - suc n
-
--- the signed number that has the 32 bits n
-abbrev pub signed32 : ℕ → ℤ
-signed32 n = cond (ltb n 2_147_483_648) (pos n) (negsuc (4_294_967_295 - n))
-
 -- two's complement in k bytes: a number itself, or 256^k more than a negative number (negsuc n is -1 - n)
 abbrev pub twosComplement : ℕ → ℤ → ℕ
 twosComplement k (pos n) = n

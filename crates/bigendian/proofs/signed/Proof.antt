@@ -1,4 +1,4 @@
--- `bigendian::signed` meets its contract. Assumes nothing.
+-- `bigendian::signed` meets its contract: below 2^31 the number is itself, from there on the code takes 256^4 away. Assumes nothing.
 use Rattle.bigendian.proofs.Signs.{minus-32, minus-fits, minus-read}
 use mir.Facts.{toZ-ofZ}
 use borrow.Author.Tests.{lt-ltb, le-ltb}
