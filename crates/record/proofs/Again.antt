@@ -7,9 +7,9 @@ use borrow.Author.Tests.{le-ltb}
 use lib.IntN.{pos}
 use lib.ListN.{length, take, drop}
 use lib.Seq.{take-add}
-use Rattle.bigendian.specs.Numbers.{Bytes, bytesOf, numberAt, wordSum, twos32, signed32}
+use Rattle.bigendian.specs.Numbers.{Bytes, bytesOf, numberAt, wordSum, twosComplement, signedOf}
 use Rattle.bigendian.proofs.Numbers.{number-below, bytes-number, sum-next, sum-take}
-use Rattle.bigendian.proofs.Signs.{signed-bits}
+use Rattle.bigendian.proofs.Signs.{twos-signed}
 use Rattle.instants.proofs.Accepted.{accepted}
 use Rattle.clock.specs.declared.ClockWords.{ClockWords}
 use Rattle.clock.specs.declared.SplitAnswer.the-variants.{Split}
@@ -30,13 +30,13 @@ module _ (s : List ℕ) (b : Bytes s) (f : Formed s) where
   field : (i k : ℕ) {n : ℕ} → i + k ≤ recordLength → n ≡ numberAt s i k → bytesOf k n ≡ take k (drop i s)
   field i k h e = ap (bytesOf k) e ∙ bytes-number s i k b (omega (arith, f .long))
 
-  signed : (i : ℕ) → twos32 (signed32 (numberAt s i 4)) ≡ numberAt s i 4
-  signed i = signed-bits (numberAt s i 4) (number-below s i 4 b)
+  signed : (i : ℕ) → twosComplement 4 (signedOf 4 (numberAt s i 4)) ≡ numberAt s i 4
+  signed i = twos-signed 4 (numberAt s i 4) (number-below s i 4 b)
 
   on : (n k : ℕ) {l x : List ℕ} → l ≡ take n s → x ≡ take k (drop n s) → l ++ x ≡ take (n + k) s
   on n k p q = ap₂ _++_ p q ∙ sym (take-add n k s)
 
-  fields-are : fieldBytes (words (pos (numberAt s 4 4)) (numberAt s 8 8)) (signed32 (numberAt s 16 4)) (signed32 (numberAt s 20 4)) (signed32 (numberAt s 24 4)) ≡ take 28 s
+  fields-are : fieldBytes (words (pos (numberAt s 4 4)) (numberAt s 8 8)) (signedOf 4 (numberAt s 16 4)) (signedOf 4 (numberAt s 20 4)) (signedOf 4 (numberAt s 24 4)) ≡ take 28 s
   fields-are =
       on 24 4 (on 20 4 (on 16 4 (on 8 8 (on 4 4 (on 3 1 (on 2 1
       (field 0 2 (omega arith) (sym (f .size)))
@@ -53,7 +53,7 @@ module _ (s : List ℕ) (b : Bytes s) (f : Formed s) where
       ap negated (sum-take s 28 14 (omega arith))
       ∙ least (wordSum s 14) (numberAt s 28 2) (ap (λ (x : ℕ). x % 65536) (sym (sum-next s 14)) ∙ f .zero) (number-below s 28 2 b)
 
-  bytes-are : recordBytes (words (pos (numberAt s 4 4)) (numberAt s 8 8)) (signed32 (numberAt s 16 4)) (signed32 (numberAt s 20 4)) (signed32 (numberAt s 24 4)) ≡ take 30 s
+  bytes-are : recordBytes (words (pos (numberAt s 4 4)) (numberAt s 8 8)) (signedOf 4 (numberAt s 16 4)) (signedOf 4 (numberAt s 20 4)) (signedOf 4 (numberAt s 24 4)) ≡ take 30 s
   unfolding recordBytes
   bytes-are =
       ap (λ (l : List ℕ). l ++ bytesOf 2 (negated (wordSum l 14))) fields-are

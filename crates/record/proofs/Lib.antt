@@ -5,3 +5,4 @@ pub mod Round
 pub mod Again
 pub mod Kept
 pub mod Changed
+pub mod Same

@@ -9,9 +9,9 @@ use lib.IntN.{ℤ, pos, negsuc}
 use lib.ListN.{length, take, drop}
 use mir.Syntax.{w32}
 use mir.Val.{SFits}
-use Rattle.bigendian.specs.Numbers.{bytesOf, numberAt, wordSum, twos32, signed32}
+use Rattle.bigendian.specs.Numbers.{bytesOf, numberAt, wordSum, twosComplement, signedOf}
 use Rattle.bigendian.proofs.Numbers.{number-bytes, sum-next, sum-take}
-use Rattle.bigendian.proofs.Signs.{bits-small, bits-signed}
+use Rattle.bigendian.proofs.Signs.{twos-below, signed-twos}
 use Rattle.instants.specs.Instants.{instant, dayIndex, IsAccepted}
 use Rattle.instants.proofs.Accepted.{AcceptedAt, accepted-at}
 use Rattle.clock.specs.declared.ClockWords.{ClockWords}
@@ -28,8 +28,8 @@ use Rattle.record.proofs.Forms.{Formed, form-right, read-joined, alike}
 zero-sum : (x : ℕ) → (x + negated x % 65536) % 65536 ≡ 0
 zero-sum x = omega arith
 
-signed-back : (z : ℤ) {n : ℕ} → SFits w32 z → n ≡ twos32 z % 4294967296 → signed32 n ≡ z
-signed-back z f e = ap signed32 (e ∙ mod-eq-of-lt (bits-small z f)) ∙ bits-signed z f
+signed-back : (z : ℤ) {n : ℕ} → SFits w32 z → n ≡ twosComplement 4 z % 4294967296 → signedOf 4 n ≡ z
+signed-back z f e = ap (signedOf 4) (e ∙ mod-eq-of-lt (twos-below 4 z (f .sfits))) ∙ signed-twos 4 z (f .sfits)
 
 -- the bytes of a record, with any bytes after them
 module _ (w : ClockWords) (ut1 lod rate : ℤ) (rest : List ℕ) where
@@ -46,20 +46,20 @@ module _ (w : ClockWords) (ut1 lod rate : ℤ) (rest : List ℕ) where
   formed-written = record { long = omega arith; version = refl; size = refl; none = refl; zero = ap (λ (x : ℕ). x % 65536) sum-is ∙ zero-sum (wordSum F 14) }
 
   -- the n in four or eight bytes, or any other number, is read back
-  day-back : twos32 (w .day) < 4294967296 → numberAt S 4 4 ≡ twos32 (w .day)
-  day-back h = number-bytes (take 4 S) 4 (twos32 (w .day)) (drop 8 S) ∙ mod-eq-of-lt h
+  day-back : twosComplement 4 (w .day) < 4294967296 → numberAt S 4 4 ≡ twosComplement 4 (w .day)
+  day-back h = number-bytes (take 4 S) 4 (twosComplement 4 (w .day)) (drop 8 S) ∙ mod-eq-of-lt h
 
   time-back : w .time < 18446744073709551616 → numberAt S 8 8 ≡ w .time
   time-back h = number-bytes (take 8 S) 8 (w .time) (drop 16 S) ∙ mod-eq-of-lt h
 
-  ut1-back : SFits w32 ut1 → signed32 (numberAt S 16 4) ≡ ut1
-  ut1-back f = signed-back ut1 f (number-bytes (take 16 S) 4 (twos32 ut1) (drop 20 S))
+  ut1-back : SFits w32 ut1 → signedOf 4 (numberAt S 16 4) ≡ ut1
+  ut1-back f = signed-back ut1 f (number-bytes (take 16 S) 4 (twosComplement 4 ut1) (drop 20 S))
 
-  lod-back : SFits w32 lod → signed32 (numberAt S 20 4) ≡ lod
-  lod-back f = signed-back lod f (number-bytes (take 20 S) 4 (twos32 lod) (drop 24 S))
+  lod-back : SFits w32 lod → signedOf 4 (numberAt S 20 4) ≡ lod
+  lod-back f = signed-back lod f (number-bytes (take 20 S) 4 (twosComplement 4 lod) (drop 24 S))
 
-  rate-back : SFits w32 rate → signed32 (numberAt S 24 4) ≡ rate
-  rate-back f = signed-back rate f (number-bytes (take 24 S) 4 (twos32 rate) (drop 28 S))
+  rate-back : SFits w32 rate → signedOf 4 (numberAt S 24 4) ≡ rate
+  rate-back f = signed-back rate f (number-bytes (take 24 S) 4 (twosComplement 4 rate) (drop 28 S))
 
 -- an accepted day number is not negative, so its bits are itself
 day-bits : (d : ℤ) (m i : ℕ) → AcceptedAt d m i → d ≡ pos (i - indexOffset)
@@ -76,8 +76,8 @@ unfolding recordBytes
 read-back d m ut1 lod rate rest a f g h =
     let t : AcceptedAt d m (dayIndex d) = accepted-at d m (dayIndex d) a in
     let e : d ≡ pos (dayIndex d - indexOffset) = day-bits d m (dayIndex d) t in
-    let p : twos32 d < 4294967296 = rw e (let k : dayIndex d - indexOffset < 4294967296 = omega (arith, t .high) in k) in
-    let q : pos (twos32 d) ≡ d = rw e refl in
+    let p : twosComplement 4 d < 4294967296 = rw e (let k : dayIndex d - indexOffset < 4294967296 = omega (arith, t .high) in k) in
+    let q : pos (twosComplement 4 d) ≡ d = rw e refl in
     let l : timeWord d m < 18446744073709551616 = omega (arith, t .less, mark-small d) in
     let w : ClockWords = words d (timeWord d m) in
     read-joined (S w ut1 lod rate rest) (form-right _ (formed-written w ut1 lod rate rest)) (instant d m) (rw (day-back w ut1 lod rate rest p, time-back w ut1 lod rate rest l, q) (split-then-join d m a))

@@ -5,7 +5,7 @@ use mathlib.Core.List.{List, [], _∷_, _++_}
 use native.Mathlib.Omega.{arith}
 use lib.IntN.{ℤ}
 use lib.ListN.{take, drop, replicate}
-use Rattle.bigendian.specs.Numbers.{bytesOf, wordSum, twos32}
+use Rattle.bigendian.specs.Numbers.{bytesOf, wordSum, twosComplement}
 use Rattle.bigendian.proofs.Numbers.{sum-take}
 use Rattle.clock.specs.declared.ClockWords.{ClockWords}
 use Rattle.record.specs.Format.{fieldBytes, negated, recordBytes}
@@ -21,10 +21,10 @@ pub all-fields : (w : ClockWords) (ut1 lod rate : ℤ) (l₁ l₂ l₃ l₄ l₅
     → l₅ ≡ putAt l₄ 16 4 a
     → l₆ ≡ putAt l₅ 20 4 b
     → l₇ ≡ putAt l₆ 24 4 c
-    → d ≡ twos32 (w .day)
-    → a ≡ twos32 ut1
-    → b ≡ twos32 lod
-    → c ≡ twos32 rate
+    → d ≡ twosComplement 4 (w .day)
+    → a ≡ twosComplement 4 ut1
+    → b ≡ twosComplement 4 lod
+    → c ≡ twosComplement 4 rate
     → l₇ ≡ fieldBytes w ut1 lod rate ++ 0 ∷ 0 ∷ []
 all-fields w ut1 lod rate l₁ l₂ l₃ l₄ l₅ l₆ l₇ d a b c p₁ p₂ p₃ p₄ p₅ p₆ p₇ q₁ q₂ q₃ q₄ = rw (p₇, p₆, p₅, p₄, p₃, p₂, p₁, q₁, q₂, q₃, q₄) refl
 

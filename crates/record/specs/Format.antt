@@ -2,7 +2,7 @@
 use Prim.Native.Nat.{ℕ, _-_, _%_}
 use mathlib.Core.List.{List, _++_}
 use lib.IntN.{ℤ}
-use Rattle.bigendian.specs.Numbers.{bytesOf, wordSum, twos32}
+use Rattle.bigendian.specs.Numbers.{bytesOf, wordSum, twosComplement}
 use Rattle.clock.specs.declared.ClockWords.{ClockWords}
 
 abbrev pub recordLength : ℕ
@@ -18,11 +18,11 @@ fieldBytes w ut1 lod rate =
     bytesOf 2 recordLength
     ++ bytesOf 1 version
     ++ bytesOf 1 0
-    ++ bytesOf 4 (twos32 (w .day))
+    ++ bytesOf 4 (twosComplement 4 (w .day))
     ++ bytesOf 8 (w .time)
-    ++ bytesOf 4 (twos32 ut1)
-    ++ bytesOf 4 (twos32 lod)
-    ++ bytesOf 4 (twos32 rate)
+    ++ bytesOf 4 (twosComplement 4 ut1)
+    ++ bytesOf 4 (twosComplement 4 lod)
+    ++ bytesOf 4 (twosComplement 4 rate)
 
 -- minus a sum, wrapped to 16 bits
 abbrev pub negated : ℕ → ℕ

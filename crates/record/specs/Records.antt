@@ -5,7 +5,7 @@ use mathlib.Core.List.{List, [], _∷_, _++_}
 use lib.Dec.{eqb, ltb}
 use lib.IntN.{ℤ, pos}
 use lib.ListN.{length, drop}
-use Rattle.bigendian.specs.Numbers.{numberAt, wordSum, signed32}
+use Rattle.bigendian.specs.Numbers.{numberAt, wordSum, signedOf}
 use Rattle.instants.specs.declared.Instant.{Instant}
 use Rattle.instants.specs.Refusals.{Case, case, refusedOr, firstRefusal}
 use Rattle.instants.specs.Instants.{instant, instantCases}
@@ -54,9 +54,9 @@ recordOf t s =
     record {
       day = t .day;
       micros = t .micros;
-      ut1 = signed32 (numberAt s 16 4);
-      lod = signed32 (numberAt s 20 4);
-      rate = signed32 (numberAt s 24 4);
+      ut1 = signedOf 4 (numberAt s 16 4);
+      lod = signedOf 4 (numberAt s 20 4);
+      rate = signedOf 4 (numberAt s 24 4);
     }
 
 -- the record that the first thirty bytes of s are, or its refusal

@@ -7,7 +7,7 @@ ghost use mathlib.Core.List.{[], _∷_, _++_};
 ghost use lib.ListN.{length};
 ghost use mir.Syntax.{w32};
 ghost use mir.Val.{SFits};
-ghost use Rattle.bigendian.specs.Numbers.{twos32};
+ghost use Rattle.bigendian.specs.Numbers.{twosComplement};
 ghost use Rattle.record.specs.Format.{fieldBytes, recordBytes};
 ghost use Rattle.record.specs.Records.{writeRefusal, written, formRefusal, readOf};
 
@@ -28,7 +28,7 @@ pub enum ReadAnswer {
 
 // A number's 32 bits.
 fn bits(x: i32) -> u64
-    ensures { λ r. ⌜ r ≡ twos32 x ⌝ }
+    ensures { λ r. ⌜ r ≡ twosComplement 4 x ⌝ }
 {
     bigendian::unsigned(x as i64)
 }

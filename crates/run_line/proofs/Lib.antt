@@ -1,3 +1,4 @@
 pub mod Small
 pub mod Answers
 pub mod Promises
+pub mod Same

@@ -3,7 +3,7 @@ use mathlib.Core.Path.{_∙_, ap}
 use mir.Syntax.{w64}
 use mir.Val.{SFits}
 use mir.Facts.{toZ-ofZ, sfits-widen}
-use Rattle.bigendian.specs.Numbers.{twos32}
+use Rattle.bigendian.specs.Numbers.{twosComplement}
 use Rattle.record.proofs.Whole.{all-fields}
 use borrow.Author.Needs.{needs}
 use Rattle.record.proofs.fields.Statement.{statement}
@@ -80,10 +80,10 @@ returns c =
     let d : SFits w64 (a .args .w .day) = sfits-widen tt (a .pre) in
     all-fields (a .args .w) (a .args .ut1) (a .args .lod) (a .args .rate) _ _ _ _ _ _ _ _ _ _ _
     (p₁ .put .ensures) (p₂ .put2 .ensures) (p₃ .put3 .ensures) (p₄ .put4 .ensures) (p₅ .put5 .ensures) (p₆ .put6 .ensures) (p₇ .put7 .ensures)
-    (b₃ .unsigned .ensures .0 ∙ ap twos32 (toZ-ofZ d))
-    (b₅ .bits .ensures ∙ ap twos32 (toZ-ofZ (a .fits .ut1)))
-    (b₆ .bits2 .ensures ∙ ap twos32 (toZ-ofZ (a .fits .lod)))
-    (b₇ .bits3 .ensures ∙ ap twos32 (toZ-ofZ (a .fits .rate)))
+    (b₃ .unsigned .ensures .0 ∙ ap (twosComplement 4) (toZ-ofZ d))
+    (b₅ .bits .ensures ∙ ap (twosComplement 4) (toZ-ofZ (a .fits .ut1)))
+    (b₆ .bits2 .ensures ∙ ap (twosComplement 4) (toZ-ofZ (a .fits .lod)))
+    (b₇ .bits3 .ensures ∙ ap (twosComplement 4) (toZ-ofZ (a .fits .rate)))
 
 pub fields-spec : {M : Type 1} → statement M
 fields-spec =
