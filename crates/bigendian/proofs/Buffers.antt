@@ -5,7 +5,7 @@ use mathlib.Core.Path.{_≡_, refl, ap, _∙_, sym}
 use mathlib.Core.List.{List, [], _++_, append-assoc}
 use native.Mathlib.Omega.{arith}
 use lib.ListN.{length, getD, take, drop, length-append, length-drop}
-use lib.Seq.{take-at, drop-at, drop-drop, getD-append-add, getD-drop}
+use lib.Seq.{take-length, take-at, drop-at, drop-drop, getD-append-add, getD-drop}
 use Rattle.bigendian.specs.Buffers.{atFront}
 
 -- with the number of the bytes in place of their length
@@ -16,6 +16,11 @@ front-is b old n e = ap (λ (k : ℕ). b ++ drop k old) e
 pub front-none : (old : List ℕ) → atFront [] old ≡ old
 unfolding atFront
 front-none old = refl
+
+-- a copy of all of b over the front
+pub front-copy : (b old : List ℕ) → take (length b) b ++ drop (length b) old ≡ atFront b old
+unfolding atFront
+front-copy b old = ap (λ (l : List ℕ). l ++ drop (length b) old) (take-length b)
 
 -- bytes that fit leave the buffer as long as it is
 pub front-length : (b old : List ℕ) → length b ≤ length old → length (atFront b old) ≡ length old

@@ -1,4 +1,3 @@
 pub mod Small
 pub mod Answers
 pub mod Promises
-pub mod Same
