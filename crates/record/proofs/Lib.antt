@@ -8,4 +8,3 @@ pub mod Round
 pub mod Again
 pub mod Kept
 pub mod Changed
-pub mod Same
