@@ -27,18 +27,18 @@ pub twos-below : (k : ℕ) (z : ℤ) → FitsBytes k z → twosComplement k z < 
 twos-below k (pos n) h = omega arith
 twos-below k (negsuc n) h = omega arith
 
-pub signed-twos : (k : ℕ) (z : ℤ) → FitsBytes k z → signedOf k (twosComplement k z) ≡ z
-signed-twos k (pos n) h = simp (lt-ltb n (256 ^ k / 2) h)
-signed-twos k (negsuc n) h =
-    let e : 256 ^ k - 1 - (256 ^ k - suc n) ≡ n = omega arith in
-    simp (le-ltb (256 ^ k - suc n) (256 ^ k / 2) (omega arith)) (ap negsuc e)
-
 pub twos-signed : (k n : ℕ) → n < 256 ^ k → twosComplement k (signedOf k n) ≡ n
 twos-signed k n h = by (ltb n (256 ^ k / 2)) refl
   where
     by : (t : Bool) → ltb n (256 ^ k / 2) ≡ t → twosComplement k (cond t (pos n) (negsuc (256 ^ k - 1 - n))) ≡ n
     by true e = refl
     by false e = omega arith
+
+pub signed-twos : (k : ℕ) (z : ℤ) → FitsBytes k z → signedOf k (twosComplement k z) ≡ z
+signed-twos k (pos n) h = simp (lt-ltb n (256 ^ k / 2) h)
+signed-twos k (negsuc n) h =
+    let e : 256 ^ k - 1 - (256 ^ k - suc n) ≡ n = omega arith in
+    simp (le-ltb (256 ^ k - suc n) (256 ^ k / 2) (omega arith)) (ap negsuc e)
 
 -- one byte at least, so that half of 256^k is a whole number
 pub signed-fits : (k n : ℕ) → n < 256 ^ suc k → FitsBytes (suc k) (signedOf (suc k) n)

@@ -7,6 +7,9 @@ ghost use mir.Syntax.{w32};
 ghost use mir.Val.{SFits};
 ghost use Rattle.bigendian.specs.Numbers.{bytesOf, numberAt, wordSum, twosComplement, signedOf};
 
+// The number of values of a byte.
+const BASE: u64 = 0x100;
+
 // A byte as a number.
 fn wide(x: u8) -> u64
     ensures { λ r. ⌜ r ≡ x ⌝ }
@@ -22,7 +25,7 @@ pub fn number_at(s: &[u8], at: usize, size: usize) -> u64
     let mut value: u64 = 0;
     let mut k: usize = 0;
     while k < size {
-        value = value * 256 + wide(s[at + k]);
+        value = value * BASE + wide(s[at + k]);
         k += 1;
     }
     value
@@ -37,8 +40,8 @@ pub fn put(s: &mut [u8], at: usize, size: usize, n: u64)
     let mut k = size;
     while 0 < k {
         k -= 1;
-        s[at + k] = (rest % 256) as u8;
-        rest = rest / 256;
+        s[at + k] = (rest % BASE) as u8;
+        rest = rest / BASE;
     }
 }
 

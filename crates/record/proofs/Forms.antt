@@ -1,6 +1,6 @@
 -- What the form of bytes tells, and what reading them tells. Assumes nothing.
 use Prim.Native.Nat.{ℕ, _%_, _≤_}
-use mathlib.Core.Path.{_≡_, refl, ap, _∙_}
+use mathlib.Core.Path.{_≡_, ap, _∙_}
 use mathlib.Core.List.{List}
 use borrow.Author.Tests.{ltb-false, eqb-true, le-ltb, eq-eqb, not-false}
 use lib.IntN.{ℤ, pos}

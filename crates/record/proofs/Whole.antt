@@ -9,7 +9,7 @@ use lib.ListN.{replicate}
 use Rattle.bigendian.specs.Numbers.{wordSum, twosComplement}
 use Rattle.bigendian.proofs.Numbers.{sum-take}
 use Rattle.clock.specs.declared.ClockWords.{ClockWords}
-use Rattle.record.specs.Format.{recordLength, version, lengthField, versionField, dayField, timeField, ut1Field, lodField, rateField, checkField, fieldBytes, negated, recordBytes}
+use Rattle.record.specs.Format.{recordLength, version, lengthField, versionField, dayField, timeField, ut1Field, lodField, rateField, checkField, inField, fieldBytes, negated, recordBytes}
 use Rattle.record.specs.Inner.{withField}
 
 pub all-fields : (w : ClockWords) (ut1 lod rate : ℤ) (l₁ l₂ l₃ l₄ l₅ l₆ l₇ : List ℕ) (d a b c : ℕ)
@@ -35,7 +35,7 @@ checked w ut1 lod rate l m sum n p q e h r =
     let f : List ℕ = fieldBytes w ut1 lod rate in
     let s : sum ≡ wordSum f 14 % 0x1_0000 = q ∙ (ap (λ (k : List ℕ). wordSum k 14 % 0x1_0000) p ∙ same) in
     let g : n ≡ negated (wordSum f 14) = negation (wordSum f 14) sum n s e h in
-    r ∙ rw (p, g) refl
+    r ∙ (ap (λ (k : List ℕ). withField k checkField n) p ∙ ap (λ (x : ℕ). f ++ inField checkField x) g)
   where
     same : wordSum (fieldBytes w ut1 lod rate ++ 0 ∷ 0 ∷ []) 14 % 0x1_0000 ≡ wordSum (fieldBytes w ut1 lod rate) 14 % 0x1_0000
     same = ap (λ (x : ℕ). x % 0x1_0000) (sym (sum-take (fieldBytes w ut1 lod rate ++ 0 ∷ 0 ∷ []) (checkField .at) 14 (omega arith)))

@@ -65,18 +65,18 @@ place-requires-7 c κs = search needs
 
 returns : tie.Need-returns
 returns c =
-    let p₇ = c .before in
-    let b₇ = p₇ .before in
-    let p₆ = b₇ .before .before .before in
-    let b₆ = p₆ .before in
-    let p₅ = b₆ .before .before .before in
-    let b₅ = p₅ .before in
-    let p₄ = b₅ .before .before .before in
-    let p₃ = p₄ .before .before .before in
-    let b₃ = p₃ .before in
-    let p₂ = b₃ .before .before .before .before in
-    let p₁ = p₂ .before .before .before in
-    let a = p₁ .before .before in
+    let p₇ : tie.After-place7 = c .before in
+    let b₇ : tie.After-bits3 = p₇ .before in
+    let p₆ : tie.After-place6 = b₇ .before .before .before in
+    let b₆ : tie.After-bits2 = p₆ .before in
+    let p₅ : tie.After-place5 = b₆ .before .before .before in
+    let b₅ : tie.After-bits = p₅ .before in
+    let p₄ : tie.After-place4 = b₅ .before .before .before in
+    let p₃ : tie.After-place3 = p₄ .before .before .before in
+    let b₃ : tie.After-unsigned = p₃ .before in
+    let p₂ : tie.After-place2 = b₃ .before .before .before .before in
+    let p₁ : tie.After-place = p₂ .before .before .before in
+    let a : tie.Start = p₁ .before .before in
     let d : SFits w64 (a .args .w .day) = sfits-widen tt (a .pre) in
     all-fields (a .args .w) (a .args .ut1) (a .args .lod) (a .args .rate) _ _ _ _ _ _ _ _ _ _ _
     (p₁ .place .ensures) (p₂ .place2 .ensures) (p₃ .place3 .ensures) (p₄ .place4 .ensures) (p₅ .place5 .ensures) (p₆ .place6 .ensures) (p₇ .place7 .ensures)

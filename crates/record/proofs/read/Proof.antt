@@ -9,6 +9,7 @@ use denote.Ref.{now}
 use mir.Syntax.{w32, w64}
 use mir.Val.{SFits}
 use mir.Facts.{toZ-ofZ, toZ-pos}
+use Rattle.bigendian.specs.Numbers.{signedOf}
 use Rattle.instants.proofs.FirstRefusal.{refused-first}
 use Rattle.clock.specs.Words.{joinOf}
 use Rattle.record.specs.declared.ReadAnswer.the-variants.{NoRecord}
@@ -113,16 +114,11 @@ returns-3 c =
     let fx : SFits w32 (x .signed .result) = search needs in
     let fy : SFits w32 (y .signed2 .result) = search needs in
     let fz : SFits w32 (z .signed3 .result) = search needs in
+    let u = x .signed .ensures ∙ ap (signedOf 4) (x .before .get3 .ensures .0) in
+    let l = y .signed2 .ensures ∙ ap (signedOf 4) (y .before .get4 .ensures .0) in
+    let r = z .signed3 .ensures ∙ ap (signedOf 4) (z .before .get5 .ensures .0) in
     rw (toZ-ofZ fd, toZ-ofZ fx, toZ-ofZ fy, toZ-ofZ fz)
-    (simp (
-      x .signed .ensures,
-      y .signed2 .ensures,
-      z .signed3 .ensures,
-      x .before .get3 .ensures .0,
-      y .before .get4 .ensures .0,
-      z .before .get5 .ensures .0,
-    )
-    (sym (read-joined _ (right (tested (joining t))) _ (sym (joins (joining t)) ∙ t .t .given .1))))
+    (simp (u, l, r) (sym (read-joined _ (right (tested (joining t))) _ (sym (joins (joining t)) ∙ t .t .given .1))))
 
 pub read-spec : {M : Type 1} → statement M
 read-spec =
