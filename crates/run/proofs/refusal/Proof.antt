@@ -35,22 +35,14 @@ else3 c = c .before
 
 -- after the four tests of numbers
 module _ (c : tie.After-instant-refusal) where
-  abbrev passed : tie.Else4
-  passed = c .before .before
-
   abbrev s : tie.Start
-  s = else1 (else2 (else3 passed)) .before
+  s = else1 (else2 (else3 (c .before .before))) .before
 
   says : c .instant-refusal .result ≡ acceptanceRefusal (acceptance (s .args .day) (s .args .micros))
   says = c .instant-refusal .ensures ∙ ap acceptanceRefusal (c .before .accept .ensures ∙ ap (λ (d : ℤ). acceptance d (s .args .micros)) (toZ-ofZ (s .fits .day)))
 
   counted : Counted (s .args .count) (s .args .step)
-  counted = record {
-    count-least = else1 (else2 (else3 passed)) .if1 .left;
-    count-most = else2 (else3 passed) .if2 .left;
-    step-least = else3 passed .if3 .left;
-    step-most = passed .if4 .left;
-  }
+  counted = record { count-least = omega arith; count-most = omega arith; step-least = omega arith; step-most = omega arith }
 
 -- after the start was found accepted
 module _ (c : tie.Else5) where
