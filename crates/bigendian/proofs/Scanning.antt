@@ -8,7 +8,7 @@ use native.Mathlib.Numerals.{add-one}
 use Rattle.bigendian.specs.Numbers.{numberAt, wordSum}
 
 -- a number of fewer than eight bytes
-pub bytes-fit : (k v : ℕ) → k < 8 → v < 256 ^ k → v < 72_057_594_037_927_936
+pub bytes-fit : (k v : ℕ) → k < 8 → v < 256 ^ k → v < 256 ^ 7
 bytes-fit k v h l = lt-of-lt-of-le l (pow-le-pow-right {n = 256} (omega arith) (seven k h))
   where
     seven : (k : ℕ) → k < 8 → k ≤ 7
@@ -17,11 +17,11 @@ bytes-fit k v h l = lt-of-lt-of-le l (pow-le-pow-right {n = 256} (omega arith) (
 pub byte-more : (k v b : ℕ) → v < 256 ^ k → b < 256 → v * 256 + b < 256 ^ (k + 1)
 byte-more k v b h l = rw (add-one k, pow-suc) (omega arith)
 
-wraps : (x w : ℕ) → (x % 65536 + w) % 65536 ≡ (x + w) % 65536
+wraps : (x w : ℕ) → (x % 0x1_0000 + w) % 0x1_0000 ≡ (x + w) % 0x1_0000
 wraps x w = omega arith
 
-pub sum-more : (s : List ℕ) (k t r w : ℕ) → t ≡ wordSum s k % 65536 → w ≡ numberAt s (2 * k) 2 → r ≡ (t + w) % 65536 → r ≡ wordSum s (k + 1) % 65536
+pub sum-more : (s : List ℕ) (k t r w : ℕ) → t ≡ wordSum s k % 0x1_0000 → w ≡ numberAt s (2 * k) 2 → r ≡ (t + w) % 0x1_0000 → r ≡ wordSum s (k + 1) % 0x1_0000
 unfolding wordSum
 sum-more s k t r w p q e =
     rw add-one
-    (e ∙ (ap (λ (x : ℕ). (x + w) % 65536) p ∙ (wraps (wordSum s k) w ∙ ap (λ (x : ℕ). (wordSum s k + x) % 65536) q)))
+    (e ∙ (ap (λ (x : ℕ). (x + w) % 0x1_0000) p ∙ (wraps (wordSum s k) w ∙ ap (λ (x : ℕ). (wordSum s k + x) % 0x1_0000) q)))

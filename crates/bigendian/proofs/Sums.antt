@@ -24,8 +24,8 @@ module _ (s t : List ℕ) (j : ℕ) (same : (m : ℕ) → (m ≡ j → ⊥) → 
       by (no p) f = omega (arith, same k p, f (omega (arith, p)))
 
   -- with one sum, wrapped, the word is the same too
-  pub one-word : (k : ℕ) → j < k → Bytes s → Bytes t → wordSum s k % 65536 ≡ wordSum t k % 65536 → numberAt s (2 * j) 2 ≡ numberAt t (2 * j) 2
+  pub one-word : (k : ℕ) → j < k → Bytes s → Bytes t → wordSum s k % 0x1_0000 ≡ wordSum t k % 0x1_0000 → numberAt s (2 * j) 2 ≡ numberAt t (2 * j) 2
   one-word k h b c e = wraps-once (wordSum s k) (wordSum t k) _ _ (sums k h) e (number-below s (2 * j) 2 b) (number-below t (2 * j) 2 c)
     where
-      wraps-once : (x y a b : ℕ) → x + b ≡ y + a → x % 65536 ≡ y % 65536 → a < 65536 → b < 65536 → a ≡ b
+      wraps-once : (x y a b : ℕ) → x + b ≡ y + a → x % 0x1_0000 ≡ y % 0x1_0000 → a < 0x1_0000 → b < 0x1_0000 → a ≡ b
       wraps-once x y a b e w p q = omega arith

@@ -1,5 +1,5 @@
 -- Numbers as bytes, the highest byte first; signed numbers in two's complement; sums of 16-bit words.
-use Prim.Native.Nat.{ℕ, zero, suc, _+_, _-_, _*_, _/_, _%_, _<_}
+use Prim.Native.Nat.{ℕ, zero, suc, _+_, _-_, _*_, _/_, _%_, _^_, _<_}
 use mathlib.Core.Bool.{cond}
 use mathlib.Core.List.{List, [], _∷_, _++_}
 use lib.Dec.{ltb}
@@ -25,11 +25,11 @@ unfoldable pub wordSum : List ℕ → ℕ → ℕ
 wordSum s zero = 0
 wordSum s (suc k) = wordSum s k + numberAt s (2 * k) 2
 
--- the 32 bits of a signed number: its own, or 2^32 more than a negative number (negsuc n is -1 - n)
-abbrev pub twos32 : ℤ → ℕ
-twos32 (pos n) = n
-twos32 (negsuc n) = 4_294_967_296 - suc n
+-- two's complement in k bytes: a number itself, or 256^k more than a negative number (negsuc n is -1 - n)
+abbrev pub twosComplement : ℕ → ℤ → ℕ
+twosComplement k (pos n) = n
+twosComplement k (negsuc n) = 256 ^ k - suc n
 
--- the signed number that has the 32 bits n
-abbrev pub signed32 : ℕ → ℤ
-signed32 n = cond (ltb n 2_147_483_648) (pos n) (negsuc (4_294_967_295 - n))
+-- the signed number that has the two's complement n in k bytes: below half of 256^k it is n, from there on n - 256^k
+abbrev pub signedOf : ℕ → ℕ → ℤ
+signedOf k n = cond (ltb n (256 ^ k / 2)) (pos n) (negsuc (256 ^ k - 1 - n))

@@ -5,8 +5,12 @@ ghost use mathlib.Core.List.{_++_};
 ghost use lib.ListN.{length, take, drop};
 ghost use mir.Syntax.{w32};
 ghost use mir.Val.{SFits};
-ghost use Rattle.bigendian.specs.Numbers.{bytesOf, numberAt, wordSum, twos32, signed32};
+ghost use Rattle.bigendian.specs.Numbers.{bytesOf, numberAt, wordSum, twosComplement, signedOf};
 
+// The number of values of a byte.
+const BASE: u64 = 0x100;
+
+// A byte as a number.
 fn wide(x: u8) -> u64
     ensures { λ r. ⌜ r ≡ x ⌝ }
 {
@@ -21,7 +25,7 @@ pub fn number_at(s: &[u8], at: usize, size: usize) -> u64
     let mut value: u64 = 0;
     let mut k: usize = 0;
     while k < size {
-        value = value * 256 + wide(s[at + k]);
+        value = value * BASE + wide(s[at + k]);
         k += 1;
     }
     value
@@ -36,15 +40,15 @@ pub fn put(s: &mut [u8], at: usize, size: usize, n: u64)
     let mut k = size;
     while 0 < k {
         k -= 1;
-        s[at + k] = (rest % 256) as u8;
-        rest = rest / 256;
+        s[at + k] = (rest % BASE) as u8;
+        rest = rest / BASE;
     }
 }
 
 // The first `count` words of s, of 16 bits each, added with wrapping.
 pub fn word_sum(s: &[u8], count: usize) -> u16
     requires { ⌜ 2 * count ≤ length (now s) ⌝ }
-    ensures { λ r. ⌜ r ≡ wordSum (now (s .entry)) count % 65536 ⌝ }
+    ensures { λ r. ⌜ r ≡ wordSum (now (s .entry)) count % 0x1_0000 ⌝ }
 {
     let mut sum: u16 = 0;
     let mut k: usize = 0;
@@ -55,24 +59,24 @@ pub fn word_sum(s: &[u8], count: usize) -> u16
     sum
 }
 
-// A number that 32 bits hold, as those bits.
+// A number that 32 bits hold, in two's complement.
 pub fn unsigned(x: i64) -> u64
     requires { ⌜ SFits w32 x ⌝ }
-    ensures { λ r. ⌜ (r ≡ twos32 x) × (r < 4294967296) ⌝ }
+    ensures { λ r. ⌜ (r ≡ twosComplement 4 x) × (r < 256 ^ 4) ⌝ }
 {
     if x < 0 {
-        return (x + 4294967296) as u64;
+        return (x + 0x1_0000_0000) as u64;
     }
     x as u64
 }
 
-// The number that 32 bits hold.
+// The number whose two's complement in 32 bits is n.
 pub fn signed(n: u64) -> i32
-    requires { ⌜ n < 4294967296 ⌝ }
-    ensures { λ r. ⌜ r ≡ signed32 n ⌝ }
+    requires { ⌜ n < 256 ^ 4 ⌝ }
+    ensures { λ r. ⌜ r ≡ signedOf 4 n ⌝ }
 {
-    if n < 2147483648 {
+    if n < 0x8000_0000 {
         return n as i32;
     }
-    ((n as i64) - 4294967296) as i32
+    ((n as i64) - 0x1_0000_0000) as i32
 }

@@ -1,4 +1,5 @@
--- Bytes that read as a record, written again. Assumes nothing.
+-- Bytes that read as a record, written again: each field's number gives the field's bytes back, so the bytes up to the check word are the same,
+-- and so is the word that makes their sum 0. Assumes nothing.
 use Prim.Native.Nat.{ℕ, _+_, _%_, _<_, _≤_}
 use mathlib.Core.Path.{_≡_, refl, ap, ap₂, _∙_, sym}
 use mathlib.Core.List.{List, _++_}
@@ -6,10 +7,12 @@ use native.Mathlib.Omega.{arith}
 use borrow.Author.Tests.{le-ltb}
 use lib.IntN.{pos}
 use lib.ListN.{length, take, drop}
-use lib.Seq.{take-add}
-use Rattle.bigendian.specs.Numbers.{Bytes, bytesOf, numberAt, wordSum, twos32, signed32}
+use lib.Seq.{take-add, length-take-le}
+use Rattle.bigendian.specs.Numbers.{Bytes, wordSum}
+use Rattle.bigendian.specs.Buffers.{atFront}
 use Rattle.bigendian.proofs.Numbers.{number-below, bytes-number, sum-next, sum-take}
-use Rattle.bigendian.proofs.Signs.{signed-bits}
+use Rattle.bigendian.proofs.Signs.{signed-bytes}
+use Rattle.bigendian.proofs.Buffers.{front-is}
 use Rattle.instants.proofs.Accepted.{accepted}
 use Rattle.clock.specs.declared.ClockWords.{ClockWords}
 use Rattle.clock.specs.declared.SplitAnswer.the-variants.{Split}
@@ -17,59 +20,66 @@ use Rattle.clock.specs.Words.{splitOf, words}
 use Rattle.clock.proofs.Words.{was-split, join-then-split}
 use Rattle.record.specs.declared.Record.{Record}
 use Rattle.record.specs.declared.ReadAnswer.the-variants.{IsRecord}
-use Rattle.record.specs.Format.{recordLength, version, fieldBytes, negated, recordBytes}
+use Rattle.record.specs.declared.Field.{Field}
+use Rattle.record.specs.Format.{recordLength, lengthField, versionField, zeroField, dayField, timeField, ut1Field, lodField, rateField, checkField, fieldAt, signedAt, inField, signedIn, fieldBytes, negated, recordBytes}
 use Rattle.record.specs.Records.{writeRefusal, written, readOf}
 use Rattle.record.proofs.Written.{written-is}
 use Rattle.record.proofs.Forms.{Formed, WasRead, was-read}
 
-least : (x n : ℕ) → (x + n) % 65536 ≡ 0 → n < 65536 → negated x ≡ n
-least x n e h = omega arith
+-- a word that makes the sum 0 is the sum negated
+negated-is : (x n : ℕ) → (x + n) % 0x1_0000 ≡ 0 → n < 0x1_0000 → negated x ≡ n
+negated-is x n e h = omega arith
 
 module _ (s : List ℕ) (b : Bytes s) (f : Formed s) where
-  -- a field is the bytes at its place
-  field : (i k : ℕ) {n : ℕ} → i + k ≤ recordLength → n ≡ numberAt s i k → bytesOf k n ≡ take k (drop i s)
-  field i k h e = ap (bytesOf k) e ∙ bytes-number s i k b (omega (arith, f .long))
+  abbrev w : ClockWords
+  w = words (pos (fieldAt s dayField)) (fieldAt s timeField)
 
-  signed : (i : ℕ) → twos32 (signed32 (numberAt s i 4)) ≡ numberAt s i 4
-  signed i = signed-bits (numberAt s i 4) (number-below s i 4 b)
+  -- the bytes of the number in a field are those at its place
+  number : (g : Field) {n : ℕ} → g .at + g .size ≤ recordLength → n ≡ fieldAt s g → inField g n ≡ take (g .size) (drop (g .at) s)
+  number g h e = ap (inField g) e ∙ bytes-number s (g .at) (g .size) b (omega (arith, f .long))
 
-  on : (n k : ℕ) {l x : List ℕ} → l ≡ take n s → x ≡ take k (drop n s) → l ++ x ≡ take (n + k) s
-  on n k p q = ap₂ _++_ p q ∙ sym (take-add n k s)
+  signed : (g : Field) → g .at + g .size ≤ recordLength → signedIn g (signedAt s g) ≡ take (g .size) (drop (g .at) s)
+  signed g h = signed-bytes s (g .at) (g .size) b (omega (arith, f .long))
 
-  fields-are : fieldBytes (words (pos (numberAt s 4 4)) (numberAt s 8 8)) (signed32 (numberAt s 16 4)) (signed32 (numberAt s 20 4)) (signed32 (numberAt s 24 4)) ≡ take 28 s
+  -- the bytes before a field, and those of the field
+  on : (g : Field) {l x : List ℕ} → l ≡ take (g .at) s → x ≡ take (g .size) (drop (g .at) s) → l ++ x ≡ take (g .at + g .size) s
+  on g p q = ap₂ _++_ p q ∙ sym (take-add (g .at) (g .size) s)
+
+  fields-are : fieldBytes w (signedAt s ut1Field) (signedAt s lodField) (signedAt s rateField) ≡ take (checkField .at) s
   fields-are =
-      on 24 4 (on 20 4 (on 16 4 (on 8 8 (on 4 4 (on 3 1 (on 2 1
-      (field 0 2 (omega arith) (sym (f .size)))
-      (field 2 1 (omega arith) (sym (f .version))))
-      (field 3 1 (omega arith) (sym (f .none))))
-      (field 4 4 (omega arith) refl))
-      (field 8 8 (omega arith) refl))
-      (field 16 4 (omega arith) (signed 16)))
-      (field 20 4 (omega arith) (signed 20)))
-      (field 24 4 (omega arith) (signed 24))
+      on rateField (on lodField (on ut1Field (on timeField (on dayField (on zeroField (on versionField
+      (number lengthField (omega arith) (sym (f .size)))
+      (number versionField (omega arith) (sym (f .version))))
+      (number zeroField (omega arith) (sym (f .zero-byte))))
+      (number dayField (omega arith) refl))
+      (number timeField (omega arith) refl))
+      (signed ut1Field (omega arith)))
+      (signed lodField (omega arith)))
+      (signed rateField (omega arith))
 
-  check-is : negated (wordSum (take 28 s) 14) ≡ numberAt s 28 2
+  check-is : negated (wordSum (take (checkField .at) s) 14) ≡ fieldAt s checkField
   check-is =
-      ap negated (sum-take s 28 14 (omega arith))
-      ∙ least (wordSum s 14) (numberAt s 28 2) (ap (λ (x : ℕ). x % 65536) (sym (sum-next s 14)) ∙ f .zero) (number-below s 28 2 b)
+      ap negated (sum-take s (checkField .at) 14 (omega arith))
+      ∙ negated-is (wordSum s 14) (fieldAt s checkField) (ap (λ (x : ℕ). x % 0x1_0000) (sym (sum-next s 14)) ∙ f .zero-sum) (number-below s (checkField .at) (checkField .size) b)
 
-  bytes-are : recordBytes (words (pos (numberAt s 4 4)) (numberAt s 8 8)) (signed32 (numberAt s 16 4)) (signed32 (numberAt s 20 4)) (signed32 (numberAt s 24 4)) ≡ take 30 s
+  bytes-are : recordBytes w (signedAt s ut1Field) (signedAt s lodField) (signedAt s rateField) ≡ take recordLength s
   unfolding recordBytes
   bytes-are =
-      ap (λ (l : List ℕ). l ++ bytesOf 2 (negated (wordSum l 14))) fields-are
-      ∙ on 28 2 refl (field 28 2 (omega arith) check-is)
+      ap (λ (l : List ℕ). l ++ inField checkField (negated (wordSum l 14))) fields-are
+      ∙ on checkField refl (number checkField (omega arith) check-is)
 
 -- PROMISE. Thirty bytes that read as a record, written again into any thirty bytes or more, are the same thirty bytes.
 pub written-again : (s : List ℕ) (r : Record) (old : List ℕ) → Bytes s → readOf s ≡ IsRecord r → recordLength ≤ length old
     → (writeRefusal (r .day) (r .micros) (length old) ≡ 0) × (written (r .day) (r .micros) (r .ut1) (r .lod) (r .rate) old ≡ take recordLength s ++ drop recordLength old)
 unfolding writeRefusal
 written-again s r old b e h =
-    let w : WasRead s r = was-read s r e in
-    let p : splitOf (r .day) (r .micros) ≡ Split (words (pos (numberAt s 4 4)) (numberAt s 8 8)) =
-    ap (λ (x : Record). splitOf (x .day) (x .micros)) (w .is) ∙ join-then-split _ _ (w .instant) (w .join) in
-    let q : recordBytes (words (pos (numberAt s 4 4)) (numberAt s 8 8)) (r .ut1) (r .lod) (r .rate) ≡ take 30 s = rw (w .is) (bytes-are s b (w .form)) in
+    let v : WasRead s r = was-read s r e in
+    let p : splitOf (r .day) (r .micros) ≡ Split (w s b (v .form)) =
+    ap (λ (x : Record). splitOf (x .day) (x .micros)) (v .is) ∙ join-then-split _ _ (v .instant) (v .join) in
+    let q : recordBytes (w s b (v .form)) (r .ut1) (r .lod) (r .rate) ≡ take recordLength s = rw (v .is) (bytes-are s b (v .form)) in
     let k = was-split _ _ _ p in (
-      simp (k .accepted .inside, k .accepted .within, le-ltb (length old) 30 h),
+      simp (k .accepted .inside, k .accepted .within, le-ltb (length old) recordLength h),
       written-is (r .day) (r .micros) _ _ _ old (accepted _ _ (k .accepted .inside) (k .accepted .less)) h
-          ∙ ap (λ (l : List ℕ). l ++ drop 30 old) (ap (λ (x : ClockWords). recordBytes x (r .ut1) (r .lod) (r .rate)) (sym (k .is)) ∙ q),
+          ∙ (ap (λ (l : List ℕ). atFront l old) (ap (λ (x : ClockWords). recordBytes x (r .ut1) (r .lod) (r .rate)) (sym (k .is)) ∙ q)
+          ∙ front-is (take recordLength s) old recordLength (length-take-le recordLength s (v .form .long))),
     )

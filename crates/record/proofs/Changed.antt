@@ -55,4 +55,4 @@ changed-byte s r i b p e h l n q f =
     let v : WasRead s r = was-read s r e in
     let w : WasRead (set s i b) q = was-read (set s i b) q f in
     let k : i < length s = omega (arith, v .form .long) in
-    n (same-byte s i b k p l (one-word s (set s i b) (i / 2) (other s i b k) 15 (omega arith) p (changed-bytes s i b k p l) (v .form .zero ∙ sym (w .form .zero))))
+    n (same-byte s i b k p l (one-word s (set s i b) (i / 2) (other s i b k) 15 (omega arith) p (changed-bytes s i b k p l) (v .form .zero-sum ∙ sym (w .form .zero-sum))))

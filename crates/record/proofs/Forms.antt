@@ -1,12 +1,11 @@
 -- What the form of bytes tells, and what reading them tells. Assumes nothing.
 use Prim.Native.Nat.{ℕ, _%_, _≤_}
-use mathlib.Core.Path.{_≡_, refl, ap, _∙_}
-use mathlib.Core.Bool.{Bool, true, false, not}
+use mathlib.Core.Path.{_≡_, ap, _∙_}
 use mathlib.Core.List.{List}
-use borrow.Author.Tests.{ltb-false, eqb-true, le-ltb, eq-eqb}
+use borrow.Author.Tests.{ltb-false, eqb-true, le-ltb, eq-eqb, not-false}
 use lib.IntN.{ℤ, pos}
 use lib.ListN.{length}
-use Rattle.bigendian.specs.Numbers.{numberAt, wordSum}
+use Rattle.bigendian.specs.Numbers.{wordSum}
 use Rattle.instants.specs.declared.Instant.{Instant}
 use Rattle.instants.specs.Refusals.{refusedOr}
 use Rattle.instants.specs.Instants.{instant}
@@ -16,28 +15,24 @@ use Rattle.clock.specs.declared.JoinAnswer.the-variants.{Joined, NoJoin}
 use Rattle.clock.specs.Words.{markUnit, joinCases, joinOf}
 use Rattle.record.specs.declared.Record.{Record}
 use Rattle.record.specs.declared.ReadAnswer.the-variants.{IsRecord, NoRecord}
-use Rattle.record.specs.Format.{recordLength, version}
+use Rattle.record.specs.Format.{recordLength, version, lengthField, versionField, zeroField, dayField, timeField, fieldAt}
 use Rattle.record.specs.Records.{formCases, formRefusal, readCases, recordOf, readOf}
 
 -- bytes of the right form
 pub record Formed (s : List ℕ) : Type 0 where
   pub long : recordLength ≤ length s
-  pub version : numberAt s 2 1 ≡ version
-  pub size : numberAt s 0 2 ≡ recordLength
-  pub none : numberAt s 3 1 ≡ 0
-  pub zero : wordSum s 15 % 65536 ≡ 0
-
-not-false : (b : Bool) → not b ≡ false → b ≡ true
-not-false true e = refl
-not-false false e = impossible (cc)
+  pub version : fieldAt s versionField ≡ version
+  pub size : fieldAt s lengthField ≡ recordLength
+  pub zero-byte : fieldAt s zeroField ≡ 0
+  pub zero-sum : wordSum s 15 % 0x1_0000 ≡ 0
 
 none-formed : (s : List ℕ) → NoneApplies (formCases s) → Formed s
 none-formed s h = record {
   long = ltb-false _ _ (h .0);
   version = eqb-true _ _ (not-false _ (h .1 .0));
   size = eqb-true _ _ (not-false _ (h .1 .1 .0));
-  none = eqb-true _ _ (not-false _ (h .1 .1 .1 .0));
-  zero = eqb-true _ _ (not-false _ (h .1 .1 .1 .1 .0));
+  zero-byte = eqb-true _ _ (not-false _ (h .1 .1 .1 .0));
+  zero-sum = eqb-true _ _ (not-false _ (h .1 .1 .1 .1 .0));
 }
 
 pub formed : (s : List ℕ) → formRefusal s ≡ 0 → Formed s
@@ -47,20 +42,20 @@ formed s e = none-formed s (first-none (formCases s) tt e)
 pub form-right : (s : List ℕ) → Formed s → formRefusal s ≡ 0
 unfolding formRefusal
 form-right s f =
-    simp (le-ltb (length s) 30 (f .long), eq-eqb _ _ (f .version), eq-eqb _ _ (f .size), eq-eqb _ _ (f .none), eq-eqb _ _ (f .zero))
+    simp (le-ltb (length s) recordLength (f .long), eq-eqb _ _ (f .version), eq-eqb _ _ (f .size), eq-eqb _ _ (f .zero-byte), eq-eqb _ _ (f .zero-sum))
 
 -- what it means that bytes were read as a record
 pub record WasRead (s : List ℕ) (r : Record) : Type 0 where
   pub form : Formed s
   pub instant : Instant
-  pub join : joinOf (pos (numberAt s 4 4)) (numberAt s 8 8) ≡ Joined instant
+  pub join : joinOf (pos (fieldAt s dayField)) (fieldAt s timeField) ≡ Joined instant
   pub is : r ≡ recordOf instant s
 
 pub was-read : (s : List ℕ) (r : Record) → readOf s ≡ IsRecord r → WasRead s r
 unfolding readOf joinOf
 was-read s r e =
-    let d = pos (numberAt s 4 4) in
-    let t = numberAt s 8 8 in
+    let d = pos (fieldAt s dayField) in
+    let t = fieldAt s timeField in
     let q = answered-none NoRecord (readCases s) (IsRecord (recordOf (instant d (t % markUnit)) s)) (IsRecord r) (λ n p. impossible (cc)) e in
     let n = q .0 in
     let g : IsRecord (recordOf (instant d (t % markUnit)) s) ≡ IsRecord r = q .1 in
@@ -74,10 +69,10 @@ was-read s r e =
 -- what bytes of the right form give: the refusal of the clock words, or a record
 module _ (s : List ℕ) (e : formRefusal s ≡ 0) where
   abbrev day : ℤ
-  day = pos (numberAt s 4 4)
+  day = pos (fieldAt s dayField)
 
   abbrev time : ℕ
-  time = numberAt s 8 8
+  time = fieldAt s timeField
 
   words-read : readOf s ≡ refusedOr NoRecord (joinCases day time) (IsRecord (recordOf (instant day (time % markUnit)) s))
   unfolding readOf formRefusal

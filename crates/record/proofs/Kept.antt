@@ -1,18 +1,20 @@
 -- What writing leaves as it was, and what reading looks at. Assumes nothing.
 use Prim.Native.Nat.{ℕ, _+_, _≤_}
 use mathlib.Core.Path.{_≡_, refl, ap}
-use mathlib.Core.List.{List, _++_}
+use mathlib.Core.List.{List}
 use native.Mathlib.Omega.{arith}
 use native.Mathlib.Decide.{decLe}
 use borrow.Author.Tests.{ltb-false, le-ltb}
 use lib.IntN.{ℤ}
-use lib.ListN.{length, take, drop, length-append, length-drop}
-use lib.Seq.{take-all, length-take-le, drop-at}
-use Rattle.bigendian.specs.Numbers.{numberAt}
+use lib.ListN.{length, take, drop}
+use lib.Seq.{take-all, length-take-le}
+use Rattle.bigendian.specs.Buffers.{atFront}
 use Rattle.bigendian.proofs.Numbers.{number-take, sum-take}
+use Rattle.bigendian.proofs.Buffers.{front-length, front-behind}
 use Rattle.instants.proofs.FirstRefusal.{in-both}
 use Rattle.clock.specs.Words.{timeWord, words}
-use Rattle.record.specs.Format.{recordLength, recordBytes}
+use Rattle.record.specs.declared.Field.{Field}
+use Rattle.record.specs.Format.{recordLength, lengthField, versionField, zeroField, dayField, timeField, ut1Field, lodField, rateField, fieldAt, recordBytes}
 use Rattle.record.specs.Records.{writeCases, writeRefusal, written, readOf}
 use Rattle.record.proofs.Written.{record-length}
 
@@ -28,11 +30,11 @@ unfolding writeRefusal written
 write-keeps d m ut1 lod rate old =
     let r : List ℕ = recordBytes (words d (timeWord d m)) ut1 lod rate in
     let l : length r ≡ recordLength = record-length (words d (timeWord d m)) ut1 lod rate in
-    in-both (λ (n : ℕ) (new : List ℕ). Keeps n old new) (λ n. n) (λ _. old) (writeCases d m (length old)) 0 (r ++ drop recordLength old)
+    in-both (λ (n : ℕ) (new : List ℕ). Keeps n old new) (λ n. n) (λ _. old) (writeCases d m (length old)) 0 (atFront r old)
     (λ n. record { size = refl; behind = refl; all = λ x. refl })
     (λ h. record {
-      size = rw (length-append, length-drop) (omega (arith, l, ltb-false (length old) 30 (h .1 .1 .0)));
-      behind = drop-at r (drop recordLength old) recordLength l;
+      size = front-length r old (omega (arith, l, ltb-false (length old) recordLength (h .1 .1 .0)));
+      behind = front-behind r old recordLength l;
       all = λ x. absurd (x refl);
     })
 
@@ -42,24 +44,24 @@ module _ (s : List ℕ) (h : recordLength ≤ length s) where
   abbrev t : List ℕ
   t = take recordLength s
 
-  number : (i k : ℕ) → i + k ≤ recordLength → numberAt t i k ≡ numberAt s i k
-  number i k l = number-take s 30 i k l
+  same : (f : Field) → f .at + f .size ≤ recordLength → fieldAt t f ≡ fieldAt s f
+  same f l = number-take s recordLength (f .at) (f .size) l
 
   front : readOf t ≡ readOf s
   unfolding readOf
   front =
       simp (
-        le-ltb (length t) 30 (omega (arith, length-take-le 30 s h)),
-        le-ltb (length s) 30 h,
-        number 2 1 (omega arith),
-        number 0 2 (omega arith),
-        number 3 1 (omega arith),
-        sum-take s 30 15 (omega arith),
-        number 4 4 (omega arith),
-        number 8 8 (omega arith),
-        number 16 4 (omega arith),
-        number 20 4 (omega arith),
-        number 24 4 (omega arith),
+        le-ltb (length t) recordLength (omega (arith, length-take-le recordLength s h)),
+        le-ltb (length s) recordLength h,
+        same versionField (omega arith),
+        same lengthField (omega arith),
+        same zeroField (omega arith),
+        sum-take s recordLength 15 (omega arith),
+        same dayField (omega arith),
+        same timeField (omega arith),
+        same ut1Field (omega arith),
+        same lodField (omega arith),
+        same rateField (omega arith),
       )
 
 -- PROMISE. Reading looks at the first thirty bytes and no others.
@@ -68,4 +70,4 @@ read-front s = by (decLe recordLength (length s))
   where
     by : Dec (recordLength ≤ length s) → readOf (take recordLength s) ≡ readOf s
     by (yes h) = front s h
-    by (no h) = ap readOf (take-all 30 s (omega (arith, h)))
+    by (no h) = ap readOf (take-all recordLength s (omega (arith, h)))

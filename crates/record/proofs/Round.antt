@@ -1,5 +1,5 @@
--- What is written reads back. Assumes nothing.
-use Prim.Native.Nat.{ℕ, _+_, _-_, _%_, _<_, _≤_}
+-- What is written reads back: the bytes have each field's number at the field's place, and the check word makes the sum 0. Assumes nothing.
+use Prim.Native.Nat.{ℕ, _+_, _-_, _%_, _^_, _<_, _≤_}
 use mathlib.Core.Path.{_≡_, refl, ap, ap₂, _∙_, sym}
 use mathlib.Core.List.{List, _++_}
 use native.Mathlib.Omega.{arith}
@@ -9,27 +9,27 @@ use lib.IntN.{ℤ, pos, negsuc}
 use lib.ListN.{length, take, drop}
 use mir.Syntax.{w32}
 use mir.Val.{SFits}
-use Rattle.bigendian.specs.Numbers.{bytesOf, numberAt, wordSum, twos32, signed32}
+use Rattle.bigendian.specs.Numbers.{numberAt, wordSum, twosComplement, signedOf}
 use Rattle.bigendian.proofs.Numbers.{number-bytes, sum-next, sum-take}
-use Rattle.bigendian.proofs.Signs.{bits-small, bits-signed}
+use Rattle.bigendian.proofs.Signs.{FitsBytes, read-signed}
+use Rattle.bigendian.proofs.Buffers.{front-is}
 use Rattle.instants.specs.Instants.{instant, dayIndex, IsAccepted}
 use Rattle.instants.proofs.Accepted.{AcceptedAt, accepted-at}
 use Rattle.clock.specs.declared.ClockWords.{ClockWords}
 use Rattle.clock.specs.Words.{mark, timeWord, words}
 use Rattle.clock.proofs.Words.{split-then-join}
 use Rattle.record.specs.declared.ReadAnswer.the-variants.{IsRecord}
-use Rattle.record.specs.Format.{recordLength, fieldBytes, negated, recordBytes}
+use Rattle.record.specs.declared.Field.{Field}
+use Rattle.record.specs.Format.{recordLength, dayField, timeField, ut1Field, lodField, rateField, checkField, fieldAt, signedAt, inField, fieldBytes, negated, recordBytes}
+use Rattle.record.specs.Inner.{withField}
 use Rattle.record.specs.Records.{written, readOf}
-use Rattle.record.proofs.Written.{written-is}
+use Rattle.record.proofs.Written.{written-is, record-length}
 use Rattle.instants.specs.Limits.{indexOffset}
 use Rattle.record.proofs.Forms.{Formed, form-right, read-joined, alike}
 
 -- the words of a record add to 0, wrapped
-zero-sum : (x : ℕ) → (x + negated x % 65536) % 65536 ≡ 0
+zero-sum : (x : ℕ) → (x + negated x % 0x1_0000) % 0x1_0000 ≡ 0
 zero-sum x = omega arith
-
-signed-back : (z : ℤ) {n : ℕ} → SFits w32 z → n ≡ twos32 z % 4294967296 → signed32 n ≡ z
-signed-back z f e = ap signed32 (e ∙ mod-eq-of-lt (bits-small z f)) ∙ bits-signed z f
 
 -- the bytes of a record, with any bytes after them
 module _ (w : ClockWords) (ut1 lod rate : ℤ) (rest : List ℕ) where
@@ -37,29 +37,43 @@ module _ (w : ClockWords) (ut1 lod rate : ℤ) (rest : List ℕ) where
   F = fieldBytes w ut1 lod rate
 
   abbrev S : List ℕ
-  S = F ++ bytesOf 2 (negated (wordSum F 14)) ++ rest
+  S = F ++ inField checkField (negated (wordSum F 14)) ++ rest
 
-  sum-is : wordSum S 15 ≡ wordSum F 14 + negated (wordSum F 14) % 65536
-  sum-is = sum-next S 14 ∙ ap₂ _+_ (sym (sum-take S 28 14 (omega arith))) (number-bytes F 2 (negated (wordSum F 14)) rest)
+  sum-is : wordSum S 15 ≡ wordSum F 14 + negated (wordSum F 14) % 0x1_0000
+  sum-is = sum-next S 14 ∙ ap₂ _+_ (sym (sum-take S (checkField .at) 14 (omega arith))) (number-bytes F (checkField .size) (negated (wordSum F 14)) rest)
 
   formed-written : Formed S
-  formed-written = record { long = omega arith; version = refl; size = refl; none = refl; zero = ap (λ (x : ℕ). x % 65536) sum-is ∙ zero-sum (wordSum F 14) }
+  formed-written = record { long = omega arith; version = refl; size = refl; zero-byte = refl; zero-sum = ap (λ (x : ℕ). x % 0x1_0000) sum-is ∙ zero-sum (wordSum F 14) }
 
-  -- the n in four or eight bytes, or any other number, is read back
-  day-back : twos32 (w .day) < 4294967296 → numberAt S 4 4 ≡ twos32 (w .day)
-  day-back h = number-bytes (take 4 S) 4 (twos32 (w .day)) (drop 8 S) ∙ mod-eq-of-lt h
+  -- S has the number n in a field
+  record Has (f : Field) (n : ℕ) : Type 0 where
+    starts : length (take (f .at) S) ≡ f .at
+    is : S ≡ withField S f n
 
-  time-back : w .time < 18446744073709551616 → numberAt S 8 8 ≡ w .time
-  time-back h = number-bytes (take 8 S) 8 (w .time) (drop 16 S) ∙ mod-eq-of-lt h
+  stands : (f : Field) (n : ℕ) → Has f n → fieldAt S f ≡ numberAt (withField S f n) (length (take (f .at) S)) (f .size)
+  stands f n h = ap₂ (λ (l : List ℕ) (i : ℕ). numberAt l i (f .size)) (h .is) (sym (h .starts))
 
-  ut1-back : SFits w32 ut1 → signed32 (numberAt S 16 4) ≡ ut1
-  ut1-back f = signed-back ut1 f (number-bytes (take 16 S) 4 (twos32 ut1) (drop 20 S))
+  -- then it is read back
+  number-back : (f : Field) (n : ℕ) → Has f n → n < 256 ^ f .size → fieldAt S f ≡ n
+  number-back f n h l = stands f n h ∙ (number-bytes (take (f .at) S) (f .size) n (drop (f .at + f .size) S) ∙ mod-eq-of-lt l)
 
-  lod-back : SFits w32 lod → signed32 (numberAt S 20 4) ≡ lod
-  lod-back f = signed-back lod f (number-bytes (take 20 S) 4 (twos32 lod) (drop 24 S))
+  signed-back : (f : Field) (z : ℤ) → Has f (twosComplement (f .size) z) → FitsBytes (f .size) z → signedAt S f ≡ z
+  signed-back f z h l = ap (signedOf (f .size)) (stands f _ h) ∙ read-signed (take (f .at) S) (f .size) z (drop (f .at + f .size) S) l
 
-  rate-back : SFits w32 rate → signed32 (numberAt S 24 4) ≡ rate
-  rate-back f = signed-back rate f (number-bytes (take 24 S) 4 (twos32 rate) (drop 28 S))
+  day-back : twosComplement 4 (w .day) < 256 ^ 4 → fieldAt S dayField ≡ twosComplement 4 (w .day)
+  day-back h = number-back dayField _ (record { starts = refl; is = refl }) h
+
+  time-back : w .time < 256 ^ 8 → fieldAt S timeField ≡ w .time
+  time-back h = number-back timeField _ (record { starts = refl; is = refl }) h
+
+  ut1-back : SFits w32 ut1 → signedAt S ut1Field ≡ ut1
+  ut1-back f = signed-back ut1Field ut1 (record { starts = refl; is = refl }) (f .sfits)
+
+  lod-back : SFits w32 lod → signedAt S lodField ≡ lod
+  lod-back f = signed-back lodField lod (record { starts = refl; is = refl }) (f .sfits)
+
+  rate-back : SFits w32 rate → signedAt S rateField ≡ rate
+  rate-back f = signed-back rateField rate (record { starts = refl; is = refl }) (f .sfits)
 
 -- an accepted day number is not negative, so its bits are itself
 day-bits : (d : ℤ) (m i : ℕ) → AcceptedAt d m i → d ≡ pos (i - indexOffset)
@@ -69,16 +83,16 @@ mark-small : (d : ℤ) → mark d < 8
 mark-small (pos n) = omega arith
 mark-small (negsuc n) = omega arith
 
--- PROMISE. The bytes of a record of an accepted instant read as that record, whatever follows them.
+-- The bytes of a record of an accepted instant read as that record, whatever follows them.
 pub read-back : (d : ℤ) (m : ℕ) (ut1 lod rate : ℤ) (rest : List ℕ) → IsAccepted d m → SFits w32 ut1 → SFits w32 lod → SFits w32 rate
     → readOf (recordBytes (words d (timeWord d m)) ut1 lod rate ++ rest) ≡ IsRecord (record { day = d; micros = m; ut1 = ut1; lod = lod; rate = rate })
 unfolding recordBytes
 read-back d m ut1 lod rate rest a f g h =
     let t : AcceptedAt d m (dayIndex d) = accepted-at d m (dayIndex d) a in
     let e : d ≡ pos (dayIndex d - indexOffset) = day-bits d m (dayIndex d) t in
-    let p : twos32 d < 4294967296 = rw e (let k : dayIndex d - indexOffset < 4294967296 = omega (arith, t .high) in k) in
-    let q : pos (twos32 d) ≡ d = rw e refl in
-    let l : timeWord d m < 18446744073709551616 = omega (arith, t .less, mark-small d) in
+    let p : twosComplement 4 d < 256 ^ 4 = rw e (let k : dayIndex d - indexOffset < 256 ^ 4 = omega (arith, t .high) in k) in
+    let q : pos (twosComplement 4 d) ≡ d = rw e refl in
+    let l : timeWord d m < 256 ^ 8 = omega (arith, t .less, mark-small d) in
     let w : ClockWords = words d (timeWord d m) in
     read-joined (S w ut1 lod rate rest) (form-right _ (formed-written w ut1 lod rate rest)) (instant d m) (rw (day-back w ut1 lod rate rest p, time-back w ut1 lod rate rest l, q) (split-then-join d m a))
     ∙ (alike d m (ut1-back w ut1 lod rate rest f) (lod-back w ut1 lod rate rest g) (rate-back w ut1 lod rate rest h))
@@ -86,4 +100,4 @@ read-back d m ut1 lod rate rest a f g h =
 -- PROMISE. A record written into thirty bytes or more reads back as the instant and the three numbers, whatever stood there.
 pub read-written : (d : ℤ) (m : ℕ) (ut1 lod rate : ℤ) (old : List ℕ) → IsAccepted d m → recordLength ≤ length old → SFits w32 ut1 → SFits w32 lod → SFits w32 rate
     → readOf (written d m ut1 lod rate old) ≡ IsRecord (record { day = d; micros = m; ut1 = ut1; lod = lod; rate = rate })
-read-written d m ut1 lod rate old a l f g h = rw (written-is d m ut1 lod rate old a l) (read-back d m ut1 lod rate (drop recordLength old) a f g h)
+read-written d m ut1 lod rate old a l f g h = rw (written-is d m ut1 lod rate old a l, front-is _ old recordLength (record-length (words d (timeWord d m)) ut1 lod rate)) (read-back d m ut1 lod rate (drop recordLength old) a f g h)

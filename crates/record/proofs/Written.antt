@@ -1,6 +1,7 @@
--- What writing gives, case by case. Assumes nothing.
-use Prim.Native.Nat.{ℕ, suc, _-_, _≤_, _<_}
-use mathlib.Core.Path.{_≡_, refl, ap, sym}
+-- What writing gives, return by return of the code: the instant is refused, the buffer is short, or the record stands at its front.
+-- Assumes nothing.
+use Prim.Native.Nat.{ℕ, suc, _-_, _^_, _≤_, _<_}
+use mathlib.Core.Path.{_≡_, refl, ap, sym, _∙_}
 use mathlib.Core.Bool.{Bool, true, false, cond}
 use mathlib.Core.List.{List, _++_}
 use native.Mathlib.Omega.{arith}
@@ -8,8 +9,11 @@ use borrow.Author.Tests.{lt-ltb, le-ltb}
 use lib.Dec.{ltb}
 use lib.IntN.{ℤ, pos, negsuc, _-ℤ_}
 use lib.ListN.{length, take, drop}
+use lib.Seq.{take-all}
 use mir.Syntax.{w32}
 use mir.Val.{SFits}
+use Rattle.bigendian.specs.Buffers.{atFront}
+use Rattle.bigendian.proofs.Buffers.{front-copy}
 use Rattle.instants.specs.Refusals.{refusedOr}
 use Rattle.instants.specs.Instants.{dayIndex, instantCases, IsAccepted}
 use Rattle.instants.proofs.Impossible.{impossible}
@@ -23,6 +27,17 @@ use Rattle.record.specs.Format.{recordLength, recordBytes}
 use Rattle.instants.specs.Limits.{indexOffset}
 use Rattle.record.specs.Records.{writeRefusal, written}
 
+pub record-length : (w : ClockWords) (ut1 lod rate : ℤ) → length (recordBytes w ut1 lod rate) ≡ recordLength
+unfolding recordBytes
+record-length w ut1 lod rate = refl
+
+-- the buffer after a record of an accepted instant
+pub written-is : (d : ℤ) (m : ℕ) (ut1 lod rate : ℤ) (old : List ℕ) → IsAccepted d m → recordLength ≤ length old → written d m ut1 lod rate old ≡ atFront (recordBytes (words d (timeWord d m)) ut1 lod rate) old
+unfolding written
+written-is d m ut1 lod rate old a h = let k = accepted-at d m _ a in simp (k .inside, k .within, le-ltb (length old) recordLength h)
+
+-- ---- the code's returns
+
 module _ (d : ℤ) (m : ℕ) (ut1 lod rate : ℤ) (old : List ℕ) where
   pub refused : (n : ℕ) → splitOf d m ≡ NoSplit n → (n ≡ writeRefusal d m (length old)) × (old ≡ written d m ut1 lod rate old)
   unfolding splitOf writeRefusal written
@@ -33,29 +48,24 @@ module _ (d : ℤ) (m : ℕ) (ut1 lod rate : ℤ) (old : List ℕ) where
 
   pub short : (w : ClockWords) → splitOf d m ≡ Split w → length old < recordLength → (12 ≡ writeRefusal d m (length old)) × (old ≡ written d m ut1 lod rate old)
   unfolding writeRefusal written
-  short w e h = let k = was-split d m w e .accepted in simp (k .inside, k .within, lt-ltb (length old) 30 h) (refl, refl)
+  short w e h = let k = was-split d m w e .accepted in simp (k .inside, k .within, lt-ltb (length old) recordLength h) (refl, refl)
 
-  -- the first thirty of l are copied over the front of the buffer
+  -- all of l, which is the record, is copied over the front of the buffer
   pub done : (w : ClockWords) (l : List ℕ) → splitOf d m ≡ Split w → recordLength ≤ length old → l ≡ recordBytes w ut1 lod rate
-      → (0 ≡ writeRefusal d m (length old)) × (take (length (take 30 l)) (take 30 l) ++ drop (length (take 30 l)) old ≡ written d m ut1 lod rate old)
-  unfolding writeRefusal written recordBytes
-  done w l e h q = let k = was-split d m w e in simp (k .accepted .inside, k .accepted .within, q, k .is, le-ltb (length old) 30 h) (refl, refl)
+      → (0 ≡ writeRefusal d m (length old)) × (take (length (take recordLength l)) (take recordLength l) ++ drop (length (take recordLength l)) old ≡ written d m ut1 lod rate old)
+  unfolding writeRefusal written
+  done w l e h q =
+      let k = was-split d m w e in
+      let t : take recordLength l ≡ l = take-all recordLength l (omega (arith, ap length q, record-length w ut1 lod rate)) in
+      let f = front-copy (take recordLength l) old ∙ ap (λ (b : List ℕ). atFront b old) (t ∙ (q ∙ ap (λ (x : ClockWords). recordBytes x ut1 lod rate) (k .is))) in
+      simp (k .accepted .inside, k .accepted .within, le-ltb (length old) recordLength h) (refl, f)
 
-pub record-length : (w : ClockWords) (ut1 lod rate : ℤ) → length (recordBytes w ut1 lod rate) ≡ recordLength
+pub thirty : (w : ClockWords) (ut1 lod rate : ℤ) (l : List ℕ) → l ≡ recordBytes w ut1 lod rate → length (take recordLength l) ≡ recordLength
 unfolding recordBytes
-record-length w ut1 lod rate = refl
-
-pub thirty : (w : ClockWords) (ut1 lod rate : ℤ) (l : List ℕ) → l ≡ recordBytes w ut1 lod rate → length (take 30 l) ≡ 30
-unfolding recordBytes
-thirty w ut1 lod rate l q = ap (λ (k : List ℕ). length (take 30 k)) q
-
--- the buffer after a record of an accepted instant
-pub written-is : (d : ℤ) (m : ℕ) (ut1 lod rate : ℤ) (old : List ℕ) → IsAccepted d m → recordLength ≤ length old → written d m ut1 lod rate old ≡ recordBytes (words d (timeWord d m)) ut1 lod rate ++ drop recordLength old
-unfolding written
-written-is d m ut1 lod rate old a h = let k = accepted-at d m _ a in simp (k .inside, k .within, le-ltb (length old) 30 h)
+thirty w ut1 lod rate l q = ap (λ (k : List ℕ). length (take recordLength k)) q
 
 -- the day word of an accepted instant, -indexOffset and later, fits 32 bits
-day-word : (i : ℕ) → i < 2147483648 → SFits w32 (pos i -ℤ pos indexOffset)
+day-word : (i : ℕ) → i < 2 ^ 31 → SFits w32 (pos i -ℤ pos indexOffset)
 day-word i h = by (ltb i indexOffset) refl
   where
     by : (t : Bool) → ltb i indexOffset ≡ t → SFits w32 (cond t (negsuc (indexOffset - suc i)) (pos (i - indexOffset)))

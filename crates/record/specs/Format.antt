@@ -2,8 +2,9 @@
 use Prim.Native.Nat.{ℕ, _-_, _%_}
 use mathlib.Core.List.{List, _++_}
 use lib.IntN.{ℤ}
-use Rattle.bigendian.specs.Numbers.{bytesOf, wordSum, twos32}
+use Rattle.bigendian.specs.Numbers.{bytesOf, numberAt, wordSum, twosComplement, signedOf}
 use Rattle.clock.specs.declared.ClockWords.{ClockWords}
+use Rattle.record.specs.declared.Field.{Field}
 
 abbrev pub recordLength : ℕ
 recordLength = 30
@@ -11,24 +12,71 @@ recordLength = 30
 abbrev pub version : ℕ
 version = 1
 
--- bytes 0 to 27, field by field: 0-1 the length, 2 the version, 3 zero, 4-7 the day word (an accepted one is not negative), 8-15 the time
--- word, 16-19 UT1, 20-23 length of day, 24-27 rate
+-- ---- the fields: each one's first byte and its number of bytes
+
+abbrev pub field : ℕ → ℕ → Field
+field at size = record { at = at; size = size }
+
+abbrev pub lengthField : Field
+lengthField = field 0 2
+
+abbrev pub versionField : Field
+versionField = field 2 1
+
+abbrev pub zeroField : Field
+zeroField = field 3 1
+
+abbrev pub dayField : Field
+dayField = field 4 4
+
+abbrev pub timeField : Field
+timeField = field 8 8
+
+abbrev pub ut1Field : Field
+ut1Field = field 16 4
+
+abbrev pub lodField : Field
+lodField = field 20 4
+
+abbrev pub rateField : Field
+rateField = field 24 4
+
+abbrev pub checkField : Field
+checkField = field 28 2
+
+-- the number in a field of s, and the signed number in it
+abbrev pub fieldAt : List ℕ → Field → ℕ
+fieldAt s f = numberAt s (f .at) (f .size)
+
+abbrev pub signedAt : List ℕ → Field → ℤ
+signedAt s f = signedOf (f .size) (fieldAt s f)
+
+-- a field's bytes for a number, and for a signed number
+abbrev pub inField : Field → ℕ → List ℕ
+inField f n = bytesOf (f .size) n
+
+abbrev pub signedIn : Field → ℤ → List ℕ
+signedIn f z = inField f (twosComplement (f .size) z)
+
+-- ---- the bytes
+
+-- bytes 0 to 27, field by field; an accepted day word is not negative
 abbrev pub fieldBytes : ClockWords → (ut1 lod rate : ℤ) → List ℕ
 fieldBytes w ut1 lod rate =
-    bytesOf 2 recordLength
-    ++ bytesOf 1 version
-    ++ bytesOf 1 0
-    ++ bytesOf 4 (twos32 (w .day))
-    ++ bytesOf 8 (w .time)
-    ++ bytesOf 4 (twos32 ut1)
-    ++ bytesOf 4 (twos32 lod)
-    ++ bytesOf 4 (twos32 rate)
+    inField lengthField recordLength
+    ++ inField versionField version
+    ++ inField zeroField 0
+    ++ signedIn dayField (w .day)
+    ++ inField timeField (w .time)
+    ++ signedIn ut1Field ut1
+    ++ signedIn lodField lod
+    ++ signedIn rateField rate
 
 -- minus a sum, wrapped to 16 bits
 abbrev pub negated : ℕ → ℕ
 negated n = (65536 - n % 65536) % 65536
 
--- the thirty bytes: 28-29 hold the word with which all fifteen words add to 0, wrapped to 16 bits
+-- the thirty bytes: the check word is the one with which all fifteen words add to 0, wrapped to 16 bits
 unfoldable pub recordBytes : ClockWords → (ut1 lod rate : ℤ) → List ℕ
 recordBytes w ut1 lod rate =
-    fieldBytes w ut1 lod rate ++ bytesOf 2 (negated (wordSum (fieldBytes w ut1 lod rate) 14))
+    fieldBytes w ut1 lod rate ++ inField checkField (negated (wordSum (fieldBytes w ut1 lod rate) 14))

@@ -4,8 +4,9 @@ use mathlib.Core.Bool.{not}
 use mathlib.Core.List.{List, [], _∷_, _++_}
 use lib.Dec.{eqb, ltb}
 use lib.IntN.{ℤ, pos}
-use lib.ListN.{length, drop}
-use Rattle.bigendian.specs.Numbers.{numberAt, wordSum, signed32}
+use lib.ListN.{length}
+use Rattle.bigendian.specs.Numbers.{wordSum}
+use Rattle.bigendian.specs.Buffers.{atFront}
 use Rattle.instants.specs.declared.Instant.{Instant}
 use Rattle.instants.specs.Refusals.{Case, case, refusedOr, firstRefusal}
 use Rattle.instants.specs.Instants.{instant, instantCases}
@@ -13,7 +14,7 @@ use Rattle.clock.specs.Words.{markUnit, timeWord, words, joinCases}
 use Rattle.record.specs.declared.Record.{Record}
 use Rattle.record.specs.declared.ReadAnswer.{ReadAnswer}
 use Rattle.record.specs.declared.ReadAnswer.the-variants.{IsRecord, NoRecord}
-use Rattle.record.specs.Format.{recordLength, version, recordBytes}
+use Rattle.record.specs.Format.{recordLength, version, lengthField, versionField, zeroField, dayField, timeField, ut1Field, lodField, rateField, fieldAt, signedAt, recordBytes}
 
 -- ---- writing
 
@@ -24,10 +25,10 @@ writeCases d m n = instantCases d m ++ (case 12 (ltb n recordLength) ∷ [])
 unfoldable pub writeRefusal : ℤ → ℕ → ℕ → ℕ
 writeRefusal d m n = firstRefusal (writeCases d m n)
 
--- the buffer afterwards: as it was on a refusal, else the record and what stood behind it
+-- the buffer afterwards: as it was on a refusal, else with the record at its front
 unfoldable pub written : ℤ → ℕ → (ut1 lod rate : ℤ) → List ℕ → List ℕ
 written d m ut1 lod rate old =
-    refusedOr (λ _. old) (writeCases d m (length old)) (recordBytes (words d (timeWord d m)) ut1 lod rate ++ drop recordLength old)
+    refusedOr (λ _. old) (writeCases d m (length old)) (atFront (recordBytes (words d (timeWord d m)) ut1 lod rate) old)
 
 -- ---- reading
 
@@ -35,9 +36,9 @@ written d m ut1 lod rate old =
 abbrev pub formCases : List ℕ → List Case
 formCases s =
     case 12 (ltb (length s) recordLength)
-    ∷ case 14 (not (eqb (numberAt s 2 1) version))
-    ∷ case 13 (not (eqb (numberAt s 0 2) recordLength))
-    ∷ case 15 (not (eqb (numberAt s 3 1) 0))
+    ∷ case 14 (not (eqb (fieldAt s versionField) version))
+    ∷ case 13 (not (eqb (fieldAt s lengthField) recordLength))
+    ∷ case 15 (not (eqb (fieldAt s zeroField) 0))
     ∷ case 16 (not (eqb (wordSum s 15 % 65536) 0))
     ∷ []
 
@@ -46,7 +47,7 @@ formRefusal s = firstRefusal (formCases s)
 
 -- the refusals of reading: of the form, and of the clock words
 abbrev pub readCases : List ℕ → List Case
-readCases s = formCases s ++ joinCases (pos (numberAt s 4 4)) (numberAt s 8 8)
+readCases s = formCases s ++ joinCases (pos (fieldAt s dayField)) (fieldAt s timeField)
 
 -- an instant with the three numbers in s
 abbrev pub recordOf : Instant → List ℕ → Record
@@ -54,14 +55,14 @@ recordOf t s =
     record {
       day = t .day;
       micros = t .micros;
-      ut1 = signed32 (numberAt s 16 4);
-      lod = signed32 (numberAt s 20 4);
-      rate = signed32 (numberAt s 24 4);
+      ut1 = signedAt s ut1Field;
+      lod = signedAt s lodField;
+      rate = signedAt s rateField;
     }
 
 -- the record that the first thirty bytes of s are, or its refusal
 unfoldable pub readOf : List ℕ → ReadAnswer
-readOf s = refusedOr NoRecord (readCases s) (IsRecord (recordOf (instant (pos (numberAt s 4 4)) (numberAt s 8 8 % markUnit)) s))
+readOf s = refusedOr NoRecord (readCases s) (IsRecord (recordOf (instant (pos (fieldAt s dayField)) (fieldAt s timeField % markUnit)) s))
 
 -- ---- the numbers that the exported calls give for an answer
 

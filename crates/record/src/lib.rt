@@ -4,14 +4,43 @@ use clock::JoinAnswer;
 use clock::SplitAnswer;
 ghost use mathlib.Core.Path.{_≡_};
 ghost use mathlib.Core.List.{[], _∷_, _++_};
+ghost use Prim.Native.Nat.{_+_, _^_, _<_, _≤_};
 ghost use lib.ListN.{length};
 ghost use mir.Syntax.{w32};
 ghost use mir.Val.{SFits};
-ghost use Rattle.bigendian.specs.Numbers.{twos32};
-ghost use Rattle.record.specs.Format.{fieldBytes, recordBytes};
+ghost use Rattle.bigendian.specs.Numbers.{twosComplement};
+ghost use Rattle.record.specs.Format.{fieldAt, fieldBytes, recordBytes};
+ghost use Rattle.record.specs.Inner.{withField};
 ghost use Rattle.record.specs.Records.{writeRefusal, written, formRefusal, readOf};
 
-const LENGTH: usize = 30;
+// The bytes of a record.
+pub const LENGTH: usize = 30;
+
+const VERSION: u64 = 1;
+
+// The place of a field in a record: its first byte, and its number of bytes.
+struct Field {
+    at: usize,
+    size: usize,
+}
+
+const LENGTH_FIELD: Field = Field { at: 0, size: 2 };
+
+const VERSION_FIELD: Field = Field { at: 2, size: 1 };
+
+const ZERO_FIELD: Field = Field { at: 3, size: 1 };
+
+const DAY_FIELD: Field = Field { at: 4, size: 4 };
+
+const TIME_FIELD: Field = Field { at: 8, size: 8 };
+
+const UT1_FIELD: Field = Field { at: 16, size: 4 };
+
+const LOD_FIELD: Field = Field { at: 20, size: 4 };
+
+const RATE_FIELD: Field = Field { at: 24, size: 4 };
+
+const CHECK_FIELD: Field = Field { at: 28, size: 2 };
 
 pub struct Record {
     pub day: i64,
@@ -26,44 +55,60 @@ pub enum ReadAnswer {
     NoRecord(u32),
 }
 
+// The number in a field of s.
+fn get(s: &[u8], f: Field) -> u64
+    requires { ⌜ (f .at + f .size ≤ length (now s)) × (f .size ≤ 8) ⌝ }
+    ensures { λ r. ⌜ (r ≡ fieldAt (now (s .entry)) f) × (r < 256 ^ f .size) ⌝ }
+{
+    bigendian::number_at(s, f.at, f.size)
+}
+
+// Puts a number into a field of s.
+fn place(s: &mut [u8], f: Field, n: u64)
+    requires { ⌜ f .at + f .size ≤ length (now s) ⌝ }
+    ensures { λ _. ⌜ now (s .exit) ≡ withField (now (s .entry)) f n ⌝ }
+{
+    bigendian::put(s, f.at, f.size, n);
+}
+
 // A number's 32 bits.
 fn bits(x: i32) -> u64
-    ensures { λ r. ⌜ r ≡ twos32 x ⌝ }
+    ensures { λ r. ⌜ r ≡ twosComplement 4 x ⌝ }
 {
     bigendian::unsigned(x as i64)
 }
 
-// Bytes 0 to 27, and two zeros.
-fn fields(w: ClockWords, ut1: i32, lod: i32, rate: i32) -> [u8; 30]
+// The fields before the check word, and two zeros in its place.
+fn fields(w: ClockWords, ut1: i32, lod: i32, rate: i32) -> [u8; LENGTH]
     requires { ⌜ SFits w32 (w .day) ⌝ }
     ensures { λ r. ⌜ r ≡ fieldBytes w ut1 lod rate ++ 0 ∷ 0 ∷ [] ⌝ }
 {
-    let mut s = [0u8; 30];
-    bigendian::put(&mut s, 0, 2, 30);
-    bigendian::put(&mut s, 2, 1, 1);
-    bigendian::put(&mut s, 4, 4, bigendian::unsigned(w.day));
-    bigendian::put(&mut s, 8, 8, w.time);
-    bigendian::put(&mut s, 16, 4, bits(ut1));
-    bigendian::put(&mut s, 20, 4, bits(lod));
-    bigendian::put(&mut s, 24, 4, bits(rate));
+    let mut s = [0u8; LENGTH];
+    place(&mut s, LENGTH_FIELD, LENGTH as u64);
+    place(&mut s, VERSION_FIELD, VERSION);
+    place(&mut s, DAY_FIELD, bigendian::unsigned(w.day));
+    place(&mut s, TIME_FIELD, w.time);
+    place(&mut s, UT1_FIELD, bits(ut1));
+    place(&mut s, LOD_FIELD, bits(lod));
+    place(&mut s, RATE_FIELD, bits(rate));
     s
 }
 
-// The thirty bytes: the last word is the wrapping negation of the sum of the others.
-fn record_bytes(w: ClockWords, ut1: i32, lod: i32, rate: i32) -> [u8; 30]
+// The thirty bytes: the check word is the wrapping negation of the sum of the others.
+fn record_bytes(w: ClockWords, ut1: i32, lod: i32, rate: i32) -> [u8; LENGTH]
     requires { ⌜ SFits w32 (w .day) ⌝ }
     ensures { λ r. ⌜ r ≡ recordBytes w ut1 lod rate ⌝ }
 {
     let mut s = fields(w, ut1, lod, rate);
     let check = std::num::wrapping_sub_u16(0, bigendian::word_sum(&s, 14));
-    bigendian::put(&mut s, 28, 2, check as u64);
+    place(&mut s, CHECK_FIELD, check as u64);
     s
 }
 
 // Writes a record at the front of the buffer and returns 0, or a refusal number with the buffer as it was.
 pub fn write(day: i64, micros: u64, ut1: i32, lod: i32, rate: i32, buffer: &mut [u8]) -> u32
-    ensures { λ r. ⌜ r ≡ writeRefusal day micros (length (now (buffer .entry))) ⌝ }
-    ensures { λ _. ⌜ now (buffer .exit) ≡ written day micros ut1 lod rate (now (buffer .entry)) ⌝ }
+    ensures refusal { λ r. ⌜ r ≡ writeRefusal day micros (length (now (buffer .entry))) ⌝ }
+    ensures buffer { λ _. ⌜ now (buffer .exit) ≡ written day micros ut1 lod rate (now (buffer .entry)) ⌝ }
 {
     match clock::split(day, micros) {
         SplitAnswer::NoSplit(n) => n,
@@ -86,13 +131,13 @@ fn form(s: &[u8]) -> u32
     if s.len() < LENGTH {
         return 12;
     }
-    if bigendian::number_at(s, 2, 1) != 1 {
+    if get(s, VERSION_FIELD) != VERSION {
         return 14;
     }
-    if bigendian::number_at(s, 0, 2) != 30 {
+    if get(s, LENGTH_FIELD) != LENGTH as u64 {
         return 13;
     }
-    if bigendian::number_at(s, 3, 1) != 0 {
+    if get(s, ZERO_FIELD) != 0 {
         return 15;
     }
     if bigendian::word_sum(s, 15) != 0 {
@@ -109,17 +154,14 @@ pub fn read(s: &[u8]) -> ReadAnswer
     if n != 0 {
         return ReadAnswer::NoRecord(n);
     }
-    match clock::join(
-        bigendian::number_at(s, 4, 4) as i64,
-        bigendian::number_at(s, 8, 8),
-    ) {
+    match clock::join(get(s, DAY_FIELD) as i64, get(s, TIME_FIELD)) {
         JoinAnswer::NoJoin(n) => ReadAnswer::NoRecord(n),
         JoinAnswer::Joined(t) => ReadAnswer::IsRecord(Record {
             day: t.day,
             micros: t.micros,
-            ut1: bigendian::signed(bigendian::number_at(s, 16, 4)),
-            lod: bigendian::signed(bigendian::number_at(s, 20, 4)),
-            rate: bigendian::signed(bigendian::number_at(s, 24, 4)),
+            ut1: bigendian::signed(get(s, UT1_FIELD)),
+            lod: bigendian::signed(get(s, LOD_FIELD)),
+            rate: bigendian::signed(get(s, RATE_FIELD)),
         }),
     }
 }

@@ -11,6 +11,7 @@ use lib.Seq.{take-at, drop-at}
 use borrow.Author.Tests.{le-ltb}
 use Rattle.algebra.specs.Integers.{+_}
 use Rattle.algebra.proofs.Ring.{end, _▸_, ring, quote}
+use Rattle.bigendian.proofs.Buffers.{front-more}
 use Rattle.instants.specs.Moments.{sinceJ2000}
 use Rattle.instants.specs.Limits.{dayMicros}
 use Rattle.instants.specs.Instants.{outside, dayIndex, IsAccepted, laterDay, laterMicros}
@@ -73,7 +74,13 @@ pub record-place : (d : ℤ) (m count step : ℕ) (old : List ℕ) → runRefusa
 record-place d m count step old e k h =
     let b : Behind d m step count k = behind d m step count k h in
     let r : List ℕ = recordAt (laterDay d m (k * step)) (laterMicros m (k * step)) in
-    rw (run-written d m count step old e, b .whole, append-assoc, drop-at (runBytes d m step k) _ (recordLength * k) (run-length d m step k), append-assoc)
+    rw (
+      run-written d m count step old e,
+      b .whole,
+      front-more (runBytes d m step k) (r ++ b .rest) old (recordLength * k) (run-length d m step k),
+      drop-at (runBytes d m step k) _ (recordLength * k) (run-length d m step k),
+      front-more r (b .rest) _ recordLength (thirty _ _),
+    )
     (take-at r _ recordLength (thirty _ _))
 
 -- ---- reading back
@@ -95,7 +102,7 @@ pub run-reads : (d : ℤ) (m count step : ℕ) (old : List ℕ) → runRefusal d
     → ReadsAt (laterDay d m (k * step)) (laterMicros m (k * step)) (take recordLength (drop (recordLength * k) (runWritten d m count step old)))
 run-reads d m count step old e k h = rw (record-place d m count step old e k h) (record-reads _ _ (run-accepted d m count step (length old) e k h))
 
--- PROMISE. Records of day 54465 and of day 54466, at microsecond 0, differ in each of the three numbers: a run that puts the corrections of its
+-- Records of day 54465 and of day 54466, at microsecond 0, differ in each of the three numbers: a run that puts the corrections of its
 -- first record into the others is none of ours.
 pub not-copied : {s s′ : List ℕ} (x : ReadsAt (+ 54465) 0 s) (y : ReadsAt (+ 54466) 0 s′) →
     let a : Corrections = x .answered .numbers in

@@ -1,13 +1,16 @@
--- The records of a run. Assumes nothing.
+-- The records of a run: what one record's call writes, the records one behind the other, and the buffer after them and between them.
+-- Assumes nothing.
 use Prim.Native.Nat.{ℕ, zero, suc, _+_, _-_, _*_, _≤_, _<_}
 use mathlib.Core.Path.{_≡_, refl, ap, sym, _∙_}
-use mathlib.Core.List.{List, [], _++_, append-assoc, append-nil}
+use mathlib.Core.List.{List, [], _++_, append-nil}
 use native.Mathlib.Numerals.{add-one}
 use native.Mathlib.Omega.{arith}
 use lib.IntN.{ℤ}
 use lib.ListN.{length, take, drop, length-append, length-drop}
-use lib.Seq.{take-at, drop-at, drop-drop, take-all, drop-length}
+use lib.Seq.{take-all, drop-length}
 use borrow.Author.Tests.{ltb-false}
+use Rattle.bigendian.specs.Buffers.{atFront}
+use Rattle.bigendian.proofs.Buffers.{front-length, front-take, front-behind, front-more}
 use Rattle.instants.specs.Instants.{instantCases, IsAccepted, laterDay, laterMicros}
 use Rattle.instants.proofs.Impossible.{impossible}
 use Rattle.instants.proofs.FirstRefusal.{in-each, refused-alike, none-answered, refused-first, first-none}
@@ -21,7 +24,7 @@ use Rattle.run.specs.Run.{runCases, runRefusal, recordAt, runBytes, runW
 use Rattle.run.specs.Inner.{writtenAt}
 
 -- the record of an accepted instant, written at the front of a buffer with room for it
-written-accepted : (d : ℤ) (m : ℕ) (old : List ℕ) → IsAccepted d m → recordLength ≤ length old → writtenAt d m old ≡ recordAt d m ++ drop recordLength old
+written-accepted : (d : ℤ) (m : ℕ) (old : List ℕ) → IsAccepted d m → recordLength ≤ length old → writtenAt d m old ≡ atFront (recordAt d m) old
 unfolding writtenAt recordAt
 written-accepted d m old a h = written-is d m _ _ _ old a h
 
@@ -41,7 +44,7 @@ pub thirty : (d : ℤ) (m : ℕ) → length (recordAt d m) ≡ recordLength
 unfolding recordAt
 thirty d m = record-length _ _ _ _
 
--- PROMISE. The first k records of a run are 30 * k bytes.
+-- The first k records of a run are 30 * k bytes.
 pub run-length : (d : ℤ) (m step k : ℕ) → length (runBytes d m step k) ≡ recordLength * k
 unfolding runBytes
 run-length d m step zero = refl
@@ -52,13 +55,13 @@ run-length d m step (suc k) =
 
 -- ---- the buffer afterwards
 
--- PROMISE. A run that is refused leaves every byte of the buffer as it was.
+-- A run that is refused leaves every byte of the buffer as it was.
 pub refused-unchanged : (d : ℤ) (m count step : ℕ) (old : List ℕ) → (runRefusal d m count step (length old) ≡ 0 → ⊥) → runWritten d m count step old ≡ old
 unfolding runRefusal runWritten
 refused-unchanged d m count step old h = refused-first (λ _. old) (runCases d m count step (length old)) _ h
 
--- a run that is not refused fills the front with its records, and leaves what is behind them
-pub run-written : (d : ℤ) (m count step : ℕ) (old : List ℕ) → runRefusal d m count step (length old) ≡ 0 → runWritten d m count step old ≡ runBytes d m step count ++ drop (recordLength * count) old
+-- a run that is not refused has its records at the front
+pub run-written : (d : ℤ) (m count step : ℕ) (old : List ℕ) → runRefusal d m count step (length old) ≡ 0 → runWritten d m count step old ≡ atFront (runBytes d m step count) old
 unfolding runRefusal runWritten
 run-written d m count step old e = let cs = runCases d m count step (length old) in none-answered (λ _. old) cs _ (first-none cs tt e)
 
@@ -74,29 +77,29 @@ run-keeps d m count step old =
     let l : length (runBytes d m step count) ≡ recordLength * count = run-length d m step count in
     in-each (λ _. old) (Keeps count old) (runCases d m count step (length old)) _ (λ n. record { size = refl; behind = refl })
     (λ h. record {
-      size = simp (length-append, length-drop) (omega (arith, ltb-false (length old) (recordLength * count) (h .1 .1 .1 .1 .1 .0)));
-      behind = drop-at (runBytes d m step count) (drop (recordLength * count) old) (recordLength * count) l;
+      size = front-length (runBytes d m step count) old (omega (arith, l, ltb-false (length old) (recordLength * count) (h .1 .1 .1 .1 .1 .0)));
+      behind = front-behind (runBytes d m step count) old (recordLength * count) l;
     })
 
--- What stands in the buffer when k of count records have been written: these, and from the place `at` on the bytes that were there.
+-- What stands in the buffer when k of count records have been written: these at its front, and the next one's place is `at`.
 pub record Filled (d : ℤ) (m count step : ℕ) (old s : List ℕ) (k at : ℕ) : Type 0 where
   pub most : k ≤ count
   pub room : recordLength * count ≤ length old
   pub place : at ≡ recordLength * k
-  pub bytes : s ≡ runBytes d m step k ++ drop at old
+  pub bytes : s ≡ atFront (runBytes d m step k) old
 
 module _ {d : ℤ} {m count step : ℕ} {old s : List ℕ} {k at : ℕ} (f : Filled d m count step old s k at) where
   long : length (runBytes d m step k) ≡ at
   long = run-length d m step k ∙ sym (f .place)
 
   pub filled-length : length s ≡ length old
-  filled-length = ap length (f .bytes) ∙ simp (length-append, length-drop) (omega (arith, long, f .room, f .place, f .most))
+  filled-length = ap length (f .bytes) ∙ front-length (runBytes d m step k) old (omega (arith, long, f .room, f .place, f .most))
 
   front : take at s ≡ runBytes d m step k
-  front = rw (f .bytes) (take-at (runBytes d m step k) _ at long)
+  front = rw (f .bytes) (front-take (runBytes d m step k) old at long)
 
   behind : drop at s ≡ drop at old
-  behind = rw (f .bytes) (drop-at (runBytes d m step k) _ at long)
+  behind = rw (f .bytes) (front-behind (runBytes d m step k) old at long)
 
   -- the part of the buffer that is lent for the next record is all from there on
   lent : take (length s - at) (drop at s) ≡ drop at old
@@ -113,12 +116,11 @@ module _ {d : ℤ} {m count step : ℕ} {old s : List ℕ} {k at : ℕ} (f : Fil
   filled-more h a ys e =
       let r : List ℕ = recordAt (laterDay d m (k * step)) (laterMicros m (k * step)) in
       let n : recordLength ≤ length (drop at old) = omega (arith, length-drop at old, f .room, f .place) in
-      let w : ys ≡ r ++ drop recordLength (drop at old) = e ∙ (ap (writtenAt (laterDay d m (k * step)) (laterMicros m (k * step))) lent ∙ written-accepted _ _ (drop at old) a n) in
-      let z : ys ≡ r ++ drop (at + recordLength) old = w ∙ ap (λ (l : List ℕ). r ++ l) (drop-drop recordLength at old) in
+      let w : ys ≡ atFront r (drop at old) = e ∙ (ap (writtenAt (laterDay d m (k * step)) (laterMicros m (k * step))) lent ∙ written-accepted _ _ (drop at old) a n) in
       let o : runBytes d m step (k + 1) ≡ runBytes d m step k ++ r = ap (runBytes d m step) (add-one k) in
       record {
         most = omega arith;
         room = f .room;
         place = omega (arith, f .place);
-        bytes = rw (front, unlent, append-nil, z, o) (sym (append-assoc (runBytes d m step k) r (drop (at + recordLength) old)));
+        bytes = rw (front, unlent, append-nil, w, o) (sym (front-more (runBytes d m step k) r old at long));
       }

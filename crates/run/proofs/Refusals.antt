@@ -1,4 +1,4 @@
--- When a run is refused. Assumes nothing.
+-- When a run is refused: what the tests of the code tell, one after the other, and what holds when none refuses. Assumes nothing.
 use Prim.Native.Nat.{ℕ, _+_, _-_, _*_, _/_, _^_, _≤_, _<_}
 use mathlib.Core.Path.{_≡_, refl, sym, _∙_}
 use mathlib.Core.Bool.{false, cond, _||_}
@@ -32,10 +32,10 @@ later-refusal d m t a =
 
 -- a count and a step that are not refused
 pub record Counted (count step : ℕ) : Type 0 where
-  pub some : 1 ≤ count
-  pub few : count ≤ mostRecords
-  pub least : 1 ≤ step
-  pub most : step ≤ dayMicros
+  pub count-least : 1 ≤ count
+  pub count-most : count ≤ mostRecords
+  pub step-least : 1 ≤ step
+  pub step-most : step ≤ dayMicros
 
 module _ (d : ℤ) (m count step n : ℕ) (h : Counted count step) where
   -- then a start that is not accepted refuses the run
@@ -43,7 +43,7 @@ module _ (d : ℤ) (m count step n : ℕ) (h : Counted count step) where
   unfolding runRefusal
   refused-at-start g =
       let e = acceptance-refusal d m in
-      simp (le-ltb count 1 (h .some), le-ltb mostRecords count (h .few), le-ltb step 1 (h .least), le-ltb dayMicros step (h .most))
+      simp (le-ltb count 1 (h .count-least), le-ltb mostRecords count (h .count-most), le-ltb step 1 (h .step-least), le-ltb dayMicros step (h .step-most))
       (e ∙ sym (refused-first (λ k. k) (instantCases d m) _ (λ q. g (e ∙ q))))
 
   -- after an accepted start, the last instant and the buffer are tested
@@ -51,7 +51,7 @@ module _ (d : ℤ) (m count step n : ℕ) (h : Counted count step) where
   unfolding runRefusal
   refused-later a =
       let k = accepted-at d m (dayIndex d) a in
-      simp (le-ltb count 1 (h .some), le-ltb mostRecords count (h .few), le-ltb step 1 (h .least), le-ltb dayMicros step (h .most), k .inside, k .within)
+      simp (le-ltb count 1 (h .count-least), le-ltb mostRecords count (h .count-most), le-ltb step 1 (h .step-least), le-ltb dayMicros step (h .step-most), k .inside, k .within)
 
 -- What holds of a run that is not refused.
 pub record NotRefused (d : ℤ) (m count step n : ℕ) : Type 0 where
@@ -72,7 +72,7 @@ not-refused d m count step n e =
     let q = between step 1 dayMicros (r .1 .0) in
     let k = r .1 .1 .1 .1 in
     record {
-      counted = record { some = p .0; few = p .1; least = q .0; most = q .1 };
+      counted = record { count-least = p .0; count-most = p .1; step-least = q .0; step-most = q .1 };
       accepted = accepted-none d m (r .1 .1 .0, (r .1 .1 .1 .0, tt));
       ends = k .0;
       room = ltb-false n (recordLength * count) (k .1 .0);
@@ -85,7 +85,7 @@ steps-few k step h l = below (mul-le-mul h l)
     below : k * step ≤ mostRecords * dayMicros → k * step < 2 ^ 62
     below p = omega arith
 
--- PROMISE. Every instant of a run that is not refused is accepted.
+-- Every instant of a run that is not refused is accepted.
 pub run-accepted : (d : ℤ) (m count step n : ℕ) → runRefusal d m count step n ≡ 0 → (k : ℕ) → k < count → IsAccepted (laterDay d m (k * step)) (laterMicros m (k * step))
 run-accepted d m count step n e k h =
     let r : NotRefused d m count step n = not-refused d m count step n e in

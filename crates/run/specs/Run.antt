@@ -4,8 +4,9 @@ use mathlib.Core.Bool.{Bool, _||_}
 use mathlib.Core.List.{List, [], _∷_, _++_}
 use lib.Dec.{ltb}
 use lib.IntN.{ℤ}
-use lib.ListN.{length, drop}
+use lib.ListN.{length}
 use lib.Signed.{ltZ}
+use Rattle.bigendian.specs.Buffers.{atFront}
 use Rattle.instants.specs.Limits.{lastDay, dayMicros}
 use Rattle.instants.specs.Refusals.{Case, case, refusedOr, firstRefusal}
 use Rattle.instants.specs.Instants.{instantCases, laterDay, laterMicros}
@@ -47,6 +48,6 @@ unfoldable pub runBytes : ℤ → ℕ → (step k : ℕ) → List ℕ
 runBytes d m step zero = []
 runBytes d m step (suc k) = runBytes d m step k ++ recordAt (laterDay d m (k * step)) (laterMicros m (k * step))
 
--- the buffer's bytes afterwards: as they were on a refusal, else the records and what was behind them
+-- the buffer afterwards: as it was on a refusal, else with the records at its front
 unfoldable pub runWritten : ℤ → ℕ → (count step : ℕ) → List ℕ → List ℕ
-runWritten d m count step old = refusedOr (λ _. old) (runCases d m count step (length old)) (runBytes d m step count ++ drop (recordLength * count) old)
+runWritten d m count step old = refusedOr (λ _. old) (runCases d m count step (length old)) (atFront (runBytes d m step count) old)

@@ -1,21 +1,18 @@
 // A run of records at equal steps from a start, each with the corrections of its own instant.
 use instants::Acceptance;
 use instants::DAY_MICROS;
+use record::LENGTH;
 use zonal::ZonalAnswer;
 ghost use mathlib.Core.Path.{_≡_};
-ghost use mathlib.Core.List.{_++_};
-ghost use Prim.Native.Nat.{_*_};
-ghost use lib.ListN.{length, drop};
+ghost use lib.ListN.{length};
+ghost use Rattle.bigendian.specs.Buffers.{atFront};
 ghost use Rattle.instants.specs.Instants.{acceptanceRefusal, laterDay, laterMicros};
-ghost use Rattle.record.specs.Format.{recordLength};
 ghost use Rattle.run.specs.Run.{runRefusal, runBytes, runWritten};
 ghost use Rattle.instants.specs.Inner.{LaterBounds};
 ghost use Rattle.run.specs.Inner.{writtenAt};
 
+// The most records of a run.
 const MOST_RECORDS: u64 = 96;
-
-// The bytes of a record.
-const LENGTH: usize = 30;
 
 // The refusal of an instant, or 0.
 fn instant_refusal(a: Acceptance) -> u32
@@ -77,7 +74,7 @@ fn write_later(day: i64, micros: u64, t: u64, buffer: &mut [u8])
 // Writes the records of a run that is not refused.
 fn fill(day: i64, micros: u64, count: u64, step: u64, buffer: &mut [u8])
     requires { ⌜ runRefusal day micros count step (length (now buffer)) ≡ 0 ⌝ }
-    ensures { λ _. ⌜ now (buffer .exit) ≡ runBytes day micros step count ++ drop (recordLength * count) (now (buffer .entry)) ⌝ }
+    ensures { λ _. ⌜ now (buffer .exit) ≡ atFront (runBytes day micros step count) (now (buffer .entry)) ⌝ }
 {
     let mut k: u64 = 0;
     let mut at: usize = 0;
@@ -90,8 +87,8 @@ fn fill(day: i64, micros: u64, count: u64, step: u64, buffer: &mut [u8])
 
 // Writes a run at the front of the buffer and returns 0, or a refusal number with the buffer as it was.
 pub fn write(day: i64, micros: u64, count: u64, step: u64, buffer: &mut [u8]) -> u32
-    ensures { λ r. ⌜ r ≡ runRefusal day micros count step (length (now (buffer .entry))) ⌝ }
-    ensures { λ _. ⌜ now (buffer .exit) ≡ runWritten day micros count step (now (buffer .entry)) ⌝ }
+    ensures refusal { λ r. ⌜ r ≡ runRefusal day micros count step (length (now (buffer .entry))) ⌝ }
+    ensures buffer { λ _. ⌜ now (buffer .exit) ≡ runWritten day micros count step (now (buffer .entry)) ⌝ }
 {
     let n = refusal(day, micros, count, step, buffer.len());
     if n != 0 {

@@ -3,10 +3,11 @@ use Prim.Native.Nat.{ℕ, _-_, _*_, _≤_}
 use mathlib.Core.Path.{_≡_, refl, ap, sym, _∙_}
 use mathlib.Core.List.{List, [], _∷_, _++_}
 use native.Mathlib.Omega.{arith}
-use lib.ListN.{length, take, drop, getD}
-use lib.Seq.{take-at}
+use lib.ListN.{length, take, getD}
 use lib.Signed.{ltZ}
 use borrow.Author.Tests.{le-ltb}
+use Rattle.bigendian.specs.Buffers.{atFront}
+use Rattle.bigendian.proofs.Buffers.{front-take}
 use Rattle.calendar.specs.declared.DayAnswer.the-variants.{Day, NoDay}
 use Rattle.instants.specs.Limits.{lastDay}
 use Rattle.instants.specs.Refusals.{Case, case, refusedOr}
@@ -66,12 +67,12 @@ pub answer-run : (s old : List ℕ) (k : ℕ) → outcomeOf s (length old) ≡ R
 answer-run s old k e =
     let r : IsRun s (length old) k = is-run s (length old) k e in
     let t : ℕ = r .line .step * second in
-    let w : filledOf s old ≡ runBytes (r .day) 0 t (r .line .count) ++ drop (recordLength * r .line .count) old =
+    let w : filledOf s old ≡ atFront (runBytes (r .day) 0 t (r .line .count)) old =
     sym (on-date s old (r .line) (r .is-line) (r .day) (r .is-day) .1) ∙ run-written (r .day) 0 (r .line .count) t old (r .none) in
     record {
       asked = r;
-      most = omega (arith, r .size, not-refused (r .day) 0 (r .line .count) t (length old) (r .none) .counted .few);
-      bytes = rw w (take-at (runBytes (r .day) 0 t (r .line .count)) _ k (run-length (r .day) 0 t (r .line .count) ∙ sym (r .size)));
+      most = omega (arith, r .size, not-refused (r .day) 0 (r .line .count) t (length old) (r .none) .counted .count-most);
+      bytes = rw w (front-take (runBytes (r .day) 0 t (r .line .count)) old k (run-length (r .day) 0 t (r .line .count) ∙ sym (r .size)));
     }
 
 -- ---- which bytes of the input decide

@@ -2,7 +2,8 @@
 use Prim.Native.Nat.{ℕ, _*_}
 use mathlib.Core.List.{List, _++_}
 use lib.IntN.{ℤ}
-use lib.ListN.{length, drop}
+use lib.ListN.{length}
+use Rattle.bigendian.specs.Buffers.{atFront}
 use Rattle.instants.specs.Refusals.{Case, refusedOr}
 use Rattle.calendar.specs.Dates.{date, dateIndex, dateCases}
 use Rattle.instants.specs.Instants.{dayAtIndex}
@@ -43,7 +44,7 @@ outcomeOf s n = forLine (lineOf s) n
 abbrev pub filledForLine : LineAnswer → List ℕ → List ℕ
 filledForLine BadLine old = old
 filledForLine (Parsed l) old =
-    refusedOr (λ _. old) (lineCases l (length old)) (runBytes (lineDay l) 0 (l .step * second) (l .count) ++ drop (recordLength * l .count) old)
+    refusedOr (λ _. old) (lineCases l (length old)) (atFront (runBytes (lineDay l) 0 (l .step * second) (l .count)) old)
 
 unfoldable pub filledOf : List ℕ → List ℕ → List ℕ
 filledOf s old = filledForLine (lineOf s) old

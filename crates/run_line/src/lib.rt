@@ -1,6 +1,7 @@
 // The program's answer to a line of input.
 use calendar::DayAnswer;
 use line::LineAnswer;
+use record::LENGTH;
 ghost use mathlib.Core.Path.{_≡_};
 ghost use Prim.Native.Nat.{_^_, _*_, _<_};
 ghost use lib.ListN.{length};
@@ -12,9 +13,6 @@ ghost use Rattle.run_line.specs.Answer.{second, dayRunCases, outcomeOf, 
 
 // The microseconds of a second.
 const SECOND: u64 = 1000000;
-
-// The bytes of a record.
-const LENGTH: usize = 30;
 
 pub enum Outcome {
     // A run, so many bytes at the front of the buffer.

@@ -1,4 +1,5 @@
--- `bigendian::put` meets its contract. Assumes nothing.
+-- `bigendian::put` meets its contract. The bytes are put from the last to the first; the invariant (Putting): the k bytes still to be put, and
+-- what stands behind them, are together what is to stand there in the end. Assumes nothing.
 use borrow.Author.Needs.{needs}
 use native.Mathlib.Omega.{arith}
 use Prim.Native.Nat.{suc, _-_}

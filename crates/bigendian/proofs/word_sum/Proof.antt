@@ -1,4 +1,4 @@
--- `bigendian::word_sum` meets its contract. Assumes nothing.
+-- `bigendian::word_sum` meets its contract. The invariant: the sum is that of the first k words, wrapped. Assumes nothing.
 use borrow.Author.Needs.{needs}
 use native.Mathlib.Omega.{arith}
 use Prim.Native.Nat.{ℕ, _-_, _%_, _≤_}
@@ -10,10 +10,14 @@ use Rattle.bigendian.proofs.word_sum.Statement.{statement}
 use Rattle.bigendian.proofs.word_sum.Tie as tie
 
 abbrev Inv-loop : tie.InvT-loop
-Inv-loop s count sum₀ k₀ sum k = (k ≤ count) × (sum ≡ wordSum s k % 65536)
+Inv-loop s count sum₀ k₀ sum k = (k ≤ count) × (sum ≡ wordSum s k % 0x1_0000)
 
 abbrev μ-loop : tie.MeasureT-loop
 μ-loop s count sum₀ k₀ sum k = count - k
+
+-- the call, from the loop's test
+abbrev start : tie.At-loop Inv-loop μ-loop → tie.Start Inv-loop μ-loop
+start l = l .before .before
 
 loop-holds : tie.Need-loop-holds Inv-loop μ-loop
 unfolding wordSum
@@ -45,8 +49,8 @@ loop-again c =
 returns : tie.Need-returns Inv-loop μ-loop
 returns c =
     let l = c .before in
-    let e : l .loop .k ≡ l .before .before .args .count = omega arith in
-    l .loop .inv .1 ∙ ap (λ (k : ℕ). wordSum (now (l .before .before .args .s)) k % 65536) e
+    let e : l .loop .k ≡ start l .args .count = omega arith in
+    l .loop .inv .1 ∙ ap (λ (k : ℕ). wordSum (now (start l .args .s)) k % 0x1_0000) e
 
 pub word-sum-spec : {M : Type 1} → statement M
 word-sum-spec =

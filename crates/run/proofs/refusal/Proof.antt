@@ -1,4 +1,5 @@
--- `run::refusal` meets its contract. Assumes nothing.
+-- `run::refusal` meets its contract: the tests of the count and the step, of the start, of the last instant and of the buffer, each with what
+-- those before it have left open. Assumes nothing.
 use Prim.Native.Nat.{ℕ, _-_, _*_, _^_, _<_}
 use native.Mathlib.Omega.{arith}
 use mathlib.Core.Path.{_≡_, refl, _∙_, ap, sym}
@@ -22,26 +23,39 @@ use borrow.Author.Needs.{needs}
 use Rattle.run.proofs.refusal.Statement.{statement}
 use Rattle.run.proofs.refusal.Tie as tie
 
+-- behind each test of a number, the place behind the test before it
+abbrev else1 : tie.Else2 → tie.Else1
+else1 c = c .before
+
+abbrev else2 : tie.Else3 → tie.Else2
+else2 c = c .before
+
+abbrev else3 : tie.Else4 → tie.Else3
+else3 c = c .before
+
 -- after the four tests of numbers
 module _ (c : tie.After-instant-refusal) where
   abbrev s : tie.Start
-  s = c .before .before .before .before .before .before
+  s = else1 (else2 (else3 (c .before .before))) .before
 
   says : c .instant-refusal .result ≡ acceptanceRefusal (acceptance (s .args .day) (s .args .micros))
   says = c .instant-refusal .ensures ∙ ap acceptanceRefusal (c .before .accept .ensures ∙ ap (λ (d : ℤ). acceptance d (s .args .micros)) (toZ-ofZ (s .fits .day)))
 
   counted : Counted (s .args .count) (s .args .step)
-  counted = record { some = c .before .before .before .before .before .if1 .left; few = c .before .before .before .before .if2 .left; least = c .before .before .before .if3 .left; most = c .before .before .if4 .left }
+  counted = record { count-least = omega arith; count-most = omega arith; step-least = omega arith; step-most = omega arith }
 
 -- after the start was found accepted
 module _ (c : tie.Else5) where
+  abbrev o : tie.Start
+  o = s (c .before)
+
   abbrev t : ℕ
-  t = (s (c .before) .args .count - 1) * s (c .before) .args .step
+  t = (o .args .count - 1) * o .args .step
 
   few : t < 2 ^ 62
-  few = steps-few (s (c .before) .args .count - 1) (s (c .before) .args .step) (omega (arith, counted (c .before) .few)) (counted (c .before) .most)
+  few = steps-few (o .args .count - 1) (o .args .step) (omega (arith, counted (c .before) .count-most)) (counted (c .before) .step-most)
 
-  accepted : IsAccepted (s (c .before) .args .day) (s (c .before) .args .micros)
+  accepted : IsAccepted (o .args .day) (o .args .micros)
   accepted = none-accepted _ _ (sym (says (c .before)) ∙ c .if5 .left)
 
 -- after the last instant was looked at
@@ -50,7 +64,7 @@ module _ (c : tie.After-instant-refusal2) where
   e = c .before .before .before .before
 
   abbrev b : tie.Start
-  b = s (e .before)
+  b = o e
 
   abbrev past : Bool
   past = ltZ lastDay (laterDay (b .args .day) (b .args .micros) (t e))
@@ -95,11 +109,11 @@ returns-2 c = simp (le-ltb _ _ (c .before .if1 .left), lt-ltb _ _ (c .if2 .taken
 
 returns-3 : tie.Need-returns-3
 unfolding runRefusal
-returns-3 c = simp (le-ltb _ _ (c .before .before .if1 .left), le-ltb _ _ (c .before .if2 .left), lt-ltb _ _ (c .if3 .taken))
+returns-3 c = let e : tie.Else2 = c .before in simp (le-ltb _ _ (else1 e .if1 .left), le-ltb _ _ (e .if2 .left), lt-ltb _ _ (c .if3 .taken))
 
 returns-4 : tie.Need-returns-4
 unfolding runRefusal
-returns-4 c = simp (le-ltb _ _ (c .before .before .before .if1 .left), le-ltb _ _ (c .before .before .if2 .left), le-ltb _ _ (c .before .if3 .left), lt-ltb _ _ (c .if4 .taken))
+returns-4 c = let e : tie.Else3 = c .before in simp (le-ltb _ _ (else1 (else2 e) .if1 .left), le-ltb _ _ (else2 e .if2 .left), le-ltb _ _ (e .if3 .left), lt-ltb _ _ (c .if4 .taken))
 
 accept-requires : tie.Need-accept-requires
 accept-requires c κs = search needs
@@ -114,7 +128,7 @@ mul-later : tie.Need-mul-later
 mul-later c = record { fits = omega (arith, few c) }
 
 later-requires : tie.Need-later-requires
-later-requires c κs = rw (toZ-ofZ (s (c .before) .fits .day)) (record { accepted = accepted c; few = few c })
+later-requires c κs = rw (toZ-ofZ (o c .fits .day)) (record { accepted = accepted c; few = few c })
 
 accept-requires-2 : tie.Need-accept-requires-2
 accept-requires-2 c κs = search needs
@@ -130,13 +144,15 @@ mul-if7 c = search needs
 
 returns-7 : tie.Need-returns-7
 returns-7 c =
-    let h : short (c .before .before) ≡ true = lt-ltb _ _ (c .if7 .taken) in
-    sym (rest (c .before .before) ∙ (went-on (c .before .before) (c .before .if6 .left) ∙ ap (λ (x : Bool). cond x 12 0) h))
+    let l : tie.After-instant-refusal2 = c .before .before in
+    let h : short l ≡ true = lt-ltb _ _ (c .if7 .taken) in
+    sym (rest l ∙ (went-on l (c .before .if6 .left) ∙ ap (λ (x : Bool). cond x 12 0) h))
 
 returns-8 : tie.Need-returns-8
 returns-8 c =
-    let h : short (c .before .before) ≡ false = le-ltb _ _ (c .if7 .left) in
-    sym (rest (c .before .before) ∙ (went-on (c .before .before) (c .before .if6 .left) ∙ ap (λ (x : Bool). cond x 12 0) h))
+    let l : tie.After-instant-refusal2 = c .before .before in
+    let h : short l ≡ false = le-ltb _ _ (c .if7 .left) in
+    sym (rest l ∙ (went-on l (c .before .if6 .left) ∙ ap (λ (x : Bool). cond x 12 0) h))
 
 pub refusal-spec : {M : Type 1} → statement M
 refusal-spec =

@@ -1,12 +1,10 @@
--- `run::write` meets its contract. Assumes nothing.
-use Prim.Native.Nat.{_*_}
+-- `run::write` meets its contract: a refused run leaves the buffer, any other is filled in. Assumes nothing.
 use mathlib.Core.Path.{_≡_, _∙_, ap, sym}
-use mathlib.Core.List.{_++_}
 use denote.Ref.{now}
 use lib.IntN.{ℤ}
-use lib.ListN.{length, drop}
+use lib.ListN.{length}
 use mir.Facts.{toZ-ofZ}
-use Rattle.record.specs.Format.{recordLength}
+use Rattle.bigendian.specs.Buffers.{atFront}
 use Rattle.run.specs.Run.{runRefusal, runBytes}
 use Rattle.run.proofs.Records.{refused-unchanged, run-written}
 use borrow.Author.Needs.{needs}
@@ -36,11 +34,11 @@ same-length c = search needs
 
 returns-2 : tie.Need-returns-2
 returns-2 c =
-    let r = c .before .before .before .before in
+    let r : tie.Else1 = c .before .before .before .before in
     let b = s (r .before) in (
       says (r .before),
       c .before .before .fill .ensures
-          ∙ (ap (λ (d : ℤ). runBytes d (b .args .micros) (b .args .step) (b .args .count) ++ drop (recordLength * b .args .count) (now (b .args .buffer))) (toZ-ofZ (b .fits .day))
+          ∙ (ap (λ (d : ℤ). atFront (runBytes d (b .args .micros) (b .args .step) (b .args .count)) (now (b .args .buffer))) (toZ-ofZ (b .fits .day))
           ∙ sym (run-written (b .args .day) (b .args .micros) (b .args .count) (b .args .step) (now (b .args .buffer)) (sym (says (r .before)) ∙ r .if1 .left))),
     )
 

@@ -1,4 +1,5 @@
--- `run::write_later` meets its contract. Assumes nothing.
+-- `run::write_later` meets its contract: the later instant's corrections are asked for, and its record is written with them; without
+-- corrections there is no record. Assumes nothing.
 use mathlib.Core.Path.{_≡_, _∙_, ap, sym}
 use denote.Ref.{now}
 use Prim.Native.Nat.{ℕ}
@@ -33,11 +34,15 @@ module _ (c : tie.After-later) where
   read : toZ w64 (ofZ w64 d) ≡ d
   read = toZ-ofZ (day-fits (s .args .day) (s .args .micros) (s .args .t) (s .pre .accepted) (s .pre .few))
 
-says : (c : tie.After-zonal-of) → c .zonal-of .result ≡ zonalOf (d (c .before .before)) (m (c .before .before))
+-- the instant, from its corrections
+abbrev instant : tie.After-zonal-of → tie.After-later
+instant c = c .before .before
+
+says : (c : tie.After-zonal-of) → c .zonal-of .result ≡ zonalOf (d (instant c)) (m (instant c))
 says c =
+    let i = instant c in
     c .zonal-of .ensures
-    ∙ (ap (λ (i : Instant). zonalOf (toZ w64 (ofZ w64 (i .day))) (i .micros)) (at (c .before .before))
-    ∙ ap (λ (z : ℤ). zonalOf z (m (c .before .before))) (read (c .before .before)))
+    ∙ (ap (λ (i : Instant). zonalOf (toZ w64 (ofZ w64 (i .day))) (i .micros)) (at i) ∙ ap (λ (z : ℤ). zonalOf z (m i)) (read i))
 
 later-requires : tie.Need-later-requires
 later-requires c κs = search needs
@@ -56,23 +61,25 @@ write-requires c κs = search needs
 
 returns : tie.Need-returns
 returns c =
-    let a = c .before .before .before .before in
-    written-refused (d a) (m a) _ (now (s a .args .buffer)) (sym (says (c .before .before)) ∙ c .enum-told .given .1)
+    let z : tie.After-zonal-of = c .before .before in
+    let a = instant z in
+    written-refused (d a) (m a) _ (now (s a .args .buffer)) (sym (says z) ∙ c .enum-told .given .1)
 
 same-length : tie.Need-same-length
 same-length c = search needs
 
 returns-2 : tie.Need-returns-2
 returns-2 c =
-    let w = c .before .before in
-    let k = w .before .before .before .before .before .before in
-    let a = k .before .before .before .before in
+    let w : tie.After-write = c .before .before in
+    let k : tie.After-c = w .before .before .before .before .before .before in
     let g = k .c .given .0 .0 in
     let u : toZ w32 (ofZ w32 (g .ut1)) ≡ g .ut1 = toZ-ofZ (search needs) in
     let l : toZ w32 (ofZ w32 (g .lod)) ≡ g .lod = toZ-ofZ (search needs) in
     let r : toZ w32 (ofZ w32 (g .rate)) ≡ g .rate = toZ-ofZ (search needs) in
+    let z : tie.After-zonal-of = k .before .before in
+    let a = instant z in
     w .write .ensures .1
-    ∙ rw (at a, read a, u, l, r) (written-given (d a) (m a) g (now (s a .args .buffer)) (sym (says (k .before .before)) ∙ k .c .given .1))
+    ∙ rw (at a, read a, u, l, r) (written-given (d a) (m a) g (now (s a .args .buffer)) (sym (says z) ∙ k .c .given .1))
 
 pub write-later-spec : {M : Type 1} → statement M
 write-later-spec =

@@ -48,7 +48,7 @@ returns c =
 mul-t11 : tie.Need-mul-t11
 mul-t11 c =
     let w = c .before .before .before in
-    omega (arith, not-refused (s w .args .day) _ _ _ _ (sym (says w) ∙ c .if1 .left) .counted .few)
+    omega (arith, not-refused (s w .args .day) _ _ _ _ (sym (says w) ∙ c .if1 .left) .counted .count-most)
 
 same-length-2 : tie.Need-same-length-2
 same-length-2 c = search needs

@@ -1,0 +1,48 @@
+-- Bytes at the front of a buffer: what stands there, what is behind, and one piece behind another. n is the number of the bytes.
+-- Assumes nothing.
+use Prim.Native.Nat.{ℕ, _+_, _-_, _≤_}
+use mathlib.Core.Path.{_≡_, refl, ap, _∙_, sym}
+use mathlib.Core.List.{List, [], _++_, append-assoc}
+use native.Mathlib.Omega.{arith}
+use lib.ListN.{length, getD, take, drop, length-append, length-drop}
+use lib.Seq.{take-length, take-at, drop-at, drop-drop, getD-append-add, getD-drop}
+use Rattle.bigendian.specs.Buffers.{atFront}
+
+-- with the number of the bytes in place of their length
+pub front-is : (b old : List ℕ) (n : ℕ) → length b ≡ n → atFront b old ≡ b ++ drop n old
+unfolding atFront
+front-is b old n e = ap (λ (k : ℕ). b ++ drop k old) e
+
+pub front-none : (old : List ℕ) → atFront [] old ≡ old
+unfolding atFront
+front-none old = refl
+
+-- a copy of all of b over the front
+pub front-copy : (b old : List ℕ) → take (length b) b ++ drop (length b) old ≡ atFront b old
+unfolding atFront
+front-copy b old = ap (λ (l : List ℕ). l ++ drop (length b) old) (take-length b)
+
+-- bytes that fit leave the buffer as long as it is
+pub front-length : (b old : List ℕ) → length b ≤ length old → length (atFront b old) ≡ length old
+unfolding atFront
+front-length b old h = simp (length-append, length-drop) (omega arith)
+
+pub front-take : (b old : List ℕ) (n : ℕ) → length b ≡ n → take n (atFront b old) ≡ b
+unfolding atFront
+front-take b old n e = take-at b _ n e
+
+-- what is behind is as it was
+pub front-behind : (b old : List ℕ) (n : ℕ) → length b ≡ n → drop n (atFront b old) ≡ drop n old
+front-behind b old n e = rw (front-is b old n e) (drop-at b (drop n old) n e)
+
+pub front-byte : (b old : List ℕ) (i : ℕ) → length b ≤ i → getD (atFront b old) i 0 ≡ getD old i 0
+unfolding atFront
+front-byte b old i h =
+    let e : i ≡ length b + (i - length b) = omega arith in
+    rw e (getD-append-add b (drop (length b) old) (i - length b) 0 ∙ getD-drop (length b) old (i - length b) 0)
+
+-- one more piece, behind the first
+pub front-more : (b c old : List ℕ) (n : ℕ) → length b ≡ n → atFront (b ++ c) old ≡ b ++ atFront c (drop n old)
+unfolding atFront
+front-more b c old n e =
+    rw (append-assoc, length-append, e) (ap (λ (l : List ℕ). b ++ (c ++ l)) (sym (drop-drop (length c) n old)))
