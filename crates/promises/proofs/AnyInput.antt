@@ -135,7 +135,7 @@ read-zero (NoRecord n) = (λ _. refl, λ _. refl, λ _. refl, λ _. refl, λ _. 
 
 -- PROMISE. Demand 1: any input is answered.
 pub any-input-is-answered : AnyInputIsAnswered
-unfolding outside
+unfolding outside tide.allInRange
 any-input-is-answered = record {
   date-to-day = date-to-day;
   date-to-day-zero = day-zero;
