@@ -95,22 +95,13 @@ fn before(y: u64, m: u64) -> u64
 pub fn day_of(year: u64, month: u64, day: u64) -> DayAnswer
     ensures { λ r. ⌜ r ≡ dayOf year month day ⌝ }
 {
-    if year < FIRST_YEAR {
+    if (year < FIRST_YEAR) | (LAST_YEAR < year) {
         return DayAnswer::NoDay(1);
     }
-    if LAST_YEAR < year {
-        return DayAnswer::NoDay(1);
-    }
-    if month < 1 {
+    if (month < 1) | (12 < month) {
         return DayAnswer::NoDay(2);
     }
-    if 12 < month {
-        return DayAnswer::NoDay(2);
-    }
-    if day < 1 {
-        return DayAnswer::NoDay(3);
-    }
-    if month_length(year, month) < day {
+    if (day < 1) | (month_length(year, month) < day) {
         return DayAnswer::NoDay(3);
     }
     DayAnswer::Day(instants::day_at_index(years(year - 1600) + before(year, month) + (day - 1)))
