@@ -25,7 +25,7 @@ pub leap-cases : (y : ℕ) → Leap y (leapDay y)
 unfolding leapYear leapDay
 leap-cases y = leap-of y (eqb (y % 4) 0) (eqb (y % 100) 0) (eqb (y % 400) 0) refl refl refl
 
-pub length-by : (b : Bool) → sum (monthLengths b) ≡ 365 + cond b 1 0
+length-by : (b : Bool) → sum (monthLengths b) ≡ 365 + cond b 1 0
 unfolding sum monthLengths
 length-by true = refl
 length-by false = refl

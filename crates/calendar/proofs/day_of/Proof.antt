@@ -27,20 +27,23 @@ returns-2 c = simp (c .before .if1 .left, c .if2 .taken)
 year-in : (c : tie.Else1) → (firstYear ≤ c .before .args .year) × (c .before .args .year ≤ lastYear)
 year-in c = let p = both-false _ _ (c .if1 .left) in (ltb-false _ _ (p .0), ltb-false _ _ (p .1))
 
-month-in : (c : tie.Else2) → (1 ≤ c .before .before .args .month) × (c .before .before .args .month ≤ 12)
+abbrev entry : tie.Else2 → tie.Start
+entry c = c .before .before
+
+month-in : (c : tie.Else2) → (1 ≤ entry c .args .month) × (entry c .args .month ≤ 12)
 month-in c = let p = both-false _ _ (c .if2 .left) in (ltb-false _ _ (p .0), ltb-false _ _ (p .1))
 
--- after the month's test, from after the day's
+-- past the month's test, from past the day's
 abbrev month-passed : tie.Else3 → tie.Else2
 month-passed c = c .before .before
 
-day-in : (c : tie.Else3) → (1 ≤ month-passed c .before .before .args .day) × (month-passed c .before .before .args .day < 32)
+day-in : (c : tie.Else3) → (1 ≤ entry (month-passed c) .args .day) × (entry (month-passed c) .args .day < 32)
 day-in c =
     let p = both-false _ _ (c .if3 .left) in
-    let l : month-passed c .before .before .args .day ≤ c .before .month-length .result = ltb-false _ _ (p .1) in
+    let l : entry (month-passed c) .args .day ≤ c .before .month-length .result = ltb-false _ _ (p .1) in
     (ltb-false _ _ (p .0), omega (arith, l, c .before .month-length .ensures .1))
 
--- after the day's test, from where all numbers are there
+-- past the day's test, from where all numbers are there
 abbrev passed : tie.After-before2 → tie.Else3
 passed c = c .before .before
 
@@ -79,8 +82,9 @@ unfolding dayOf dateIndex
 returns-4 c =
     let d = passed (c .before) in
     let m = month-passed d in
-    let a = m .before .before .args in
-    let n : c .before .before .years .result + c .before .before2 .result + (a .day - 1) ≡ dateIndex (date (a .year) (a .month) (a .day)) = simp (c .before .before .years .ensures .0, c .before .before2 .ensures .0) in
+    let a = entry m .args in
+    let b = c .before in
+    let n : b .before .years .result + b .before2 .result + (a .day - 1) ≡ dateIndex (date (a .year) (a .month) (a .day)) = simp (b .before .years .ensures .0, b .before2 .ensures .0) in
     simp (m .before .if1 .left, m .if2 .left, ← d .before .month-length .ensures .0, d .if3 .left)
     (ap Day (toZ-ofZ (search needs) ∙ (c .day-at-index .ensures ∙ ap dayAtIndex n)))
 
