@@ -110,39 +110,39 @@ refusal17 count = case 17 (ltb count 1 || ltb 96 count)
 abbrev pub refusal18 : ℕ → Case
 refusal18 step = case 18 (ltb step 1 || ltb 86_400_000_000 step)
 
--- ---- the demand
+-- ---- the demand: each service by its list, zeros beside a refusal, bytes that stay
 
 -- beside a refusal of the answer a, its number `value` is `zero`
 abbrev pub ZeroBeside : {A B : Type 0} → (A → ℕ) → (A → B) → B → A → Type 0
 ZeroBeside refusal value zero a = (refusal a ≡ 0 → ⊥) → value a ≡ zero
 
 pub record AnyInputIsAnswered : Type 0 where
-  -- (a)
+  -- (a) dates and day numbers
   pub date-to-day : (y m d : ℕ) → dateRefusalOf (dayOf y m d) ≡ firstRefusal (refusal1 y ∷ refusal2 m ∷ refusal3 y m d ∷ [])
   pub date-to-day-zero : (a : DayAnswer) → ZeroBeside dateRefusalOf dayNumberOf (pos 0) a
   pub day-to-date : (z : ℤ) → dayRefusalOf (dateOf z) ≡ firstRefusal (refusal8 z ∷ [])
   pub day-to-date-zero : (a : DateAnswer) → ZeroBeside dayRefusalOf yearOf 0 a × ZeroBeside dayRefusalOf monthOf 0 a × ZeroBeside dayRefusalOf dayOfMonthOf 0 a
-  -- (b)
+  -- (b) date and time
   pub date-and-time : (y m d h n s u : ℕ) → instantRefusalOf (instantOf y m d h n s u)
       ≡ firstRefusal (refusal1 y ∷ refusal2 m ∷ refusal3 y m d ∷ refusal4 h ∷ refusal5 n ∷ refusal6 s ∷ refusal7 u ∷ [])
   pub date-and-time-zero : (a : InstantAnswer) → ZeroBeside instantRefusalOf instantDayOf (pos 0) a × ZeroBeside instantRefusalOf instantMicrosOf 0 a
-  -- (c)
+  -- (c) clock words
   pub split : (d : ℤ) (m : ℕ) → splitRefusalOf (splitOf d m) ≡ firstRefusal (refusal8 d ∷ refusal9 m ∷ [])
   pub split-zero : (a : SplitAnswer) → ZeroBeside splitRefusalOf dayWordOf (pos 0) a × ZeroBeside splitRefusalOf timeWordOf 0 a
   pub join : (d : ℤ) (t : ℕ) → joinRefusalOf (joinOf d t) ≡ firstRefusal (refusal8 d ∷ refusal9 (t % 137_438_953_472) ∷ refusal10 d t ∷ [])
   pub join-zero : (a : JoinAnswer) → ZeroBeside joinRefusalOf joinedDayOf (pos 0) a × ZeroBeside joinRefusalOf joinedMicrosOf 0 a
-  -- (d)
+  -- (d) frequency and phase
   pub phase : (d : ℤ) (m : ℕ) (k : Doodson) → tide.tideRefusalOf (tide.tideOf d m k) ≡ firstRefusal (refusal8 d ∷ refusal9 m ∷ refusal11 k ∷ [])
   pub phase-zero : (a : tideAnswer.TideAnswer) → ZeroBeside tide.tideRefusalOf tide.frequencyOf zero64 a × ZeroBeside tide.tideRefusalOf tide.phaseOf zero64 a
-  -- (e)
+  -- (e) corrections
   pub corrections : (d : ℤ) (m : ℕ) → zonal.zonalRefusalOf (zonal.zonalOf d m) ≡ firstRefusal (refusal8 d ∷ refusal9 m ∷ [])
   pub corrections-zero : (a : ZonalAnswer)
       → ZeroBeside zonal.zonalRefusalOf zonal.ut1Of (pos 0) a × ZeroBeside zonal.zonalRefusalOf zonal.lodOf (pos 0) a × ZeroBeside zonal.zonalRefusalOf zonal.rateOf (pos 0) a
-  -- (f)
+  -- (f) offsets
   pub offsets : (d : ℤ) (m : ℕ) → nutation.nutationRefusalOf (nutation.nutationOf d m) ≡ firstRefusal (refusal8 d ∷ refusal9 m ∷ [])
   pub offsets-zero : (a : NutationAnswer)
       → ZeroBeside nutation.nutationRefusalOf nutation.xOf (pos 0) a × ZeroBeside nutation.nutationRefusalOf nutation.yOf (pos 0) a × ZeroBeside nutation.nutationRefusalOf nutation.uncertaintyOf 0 a
-  -- (g), one record
+  -- (g) one record
   pub record-write : (d : ℤ) (m n : ℕ) → writeRefusal d m n ≡ firstRefusal (refusal8 d ∷ refusal9 m ∷ refusal12 n 30 ∷ [])
   pub record-write-keeps : (d : ℤ) (m : ℕ) (ut1 lod rate : ℤ) (old : List ℕ) → (writeRefusal d m (length old) ≡ 0 → ⊥) → written d m ut1 lod rate old ≡ old
   pub record-read : (s : List ℕ) → readRefusalOf (readOf s)
@@ -154,7 +154,7 @@ pub record AnyInputIsAnswered : Type 0 where
       × ZeroBeside readRefusalOf recordUt1Of (pos 0) a
       × ZeroBeside readRefusalOf recordLodOf (pos 0) a
       × ZeroBeside readRefusalOf recordRateOf (pos 0) a
-  -- (g), a run
+  -- (g) a run
   pub run-write : (d : ℤ) (m count step n : ℕ) → runRefusal d m count step n
       ≡ firstRefusal (refusal17 count ∷ refusal18 step ∷ refusal8 d ∷ refusal9 m ∷ refusal8-last (laterDay d m ((count - 1) * step)) ∷ refusal12 n (30 * count) ∷ [])
   pub run-write-keeps : (d : ℤ) (m count step : ℕ) (old : List ℕ) → (runRefusal d m count step (length old) ≡ 0 → ⊥) → runWritten d m count step old ≡ old
