@@ -1,4 +1,5 @@
--- Laws of the calendar's definitions. Assumes nothing.
+-- Laws of the calendar's definitions. A leap year by its three tests; the days of k years by quotients, since from a year to the next each quotient
+-- moves where that year passes its test. Assumes nothing.
 use Prim.Native.Nat.{ℕ, zero, suc, _+_, _-_, _*_, _/_, _%_, _≤_}
 use mathlib.Core.Path.{_≡_, refl}
 use mathlib.Core.Bool.{Bool, true, false, cond, not, _&&_, _||_}

@@ -47,6 +47,7 @@ abbrev pub next : Start → (ℕ → List ℕ → LineAnswer) → LineAnswer
 next (Number v s) f = f v s
 next NoNumber f = BadLine
 
+-- the bytes that end a number
 abbrev pub space : ℕ
 space = 32
 
