@@ -1,4 +1,6 @@
--- Dates and their indices: each date's index is one more than that of the day before, and no two dates have one index. Assumes nothing.
+-- Dates and their indices. The day after a date is a date whose index is one more: by whether the month goes on, the year goes on, or a year begins.
+-- Two dates with one index are one, since an earlier year, an earlier month and an earlier day each end before a later one begins. So counting from
+-- 1600-01-01 and the index are inverse. Assumes nothing.
 use Prim.Native.Nat.{ℕ, zero, suc, _+_, _-_, _<_, _≤_}
 use mathlib.Core.Path.{_≡_, refl, ap, sym, _∙_, subst}
 use mathlib.Core.Bool.{Bool, true, false, cond}
@@ -11,7 +13,7 @@ use Rattle.calendar.specs.declared.Date.{Date}
 use Rattle.calendar.specs.Dates.{monthLengths, sum, monthLength, daysOfYears, daysBefore, dateIndex, next, dateAfter, date}
 use Rattle.calendar.specs.Inner.{leapDay}
 use Rattle.calendar.proofs.Laws.{year-length}
-use Rattle.calendar.proofs.Months.{month-next, month-last, month-inside, month-some, month-apart}
+use Rattle.calendar.proofs.Months.{month-next, month-last, month-inside, month-least, month-apart}
 
 -- A date of the calendar, in 1600 or later.
 pub record Valid (t : Date) : Type 0 where
@@ -26,7 +28,7 @@ record Steps (s t : Date) : Type 0 where
   valid : Valid t
   more : dateIndex t ≡ suc (dateIndex s)
 
-pub years-one : (k : ℕ) → daysOfYears (suc k) ≡ daysOfYears k + (365 + leapDay (1600 + k))
+years-one : (k : ℕ) → daysOfYears (suc k) ≡ daysOfYears k + (365 + leapDay (1600 + k))
 unfolding daysOfYears
 years-one k = ap (λ (n : ℕ). daysOfYears k + n) (year-length (1600 + k))
 
@@ -47,13 +49,13 @@ step t v = by-day (ltb (t .day) (monthLength (t .year) (t .month))) refl
     by-month : (b : Bool) → monthLength (t .year) (t .month) ≤ t .day → ltb (t .month) 12 ≡ b → Steps t (cond b (date (t .year) (t .month + 1) 1) (date (t .year + 1) 1 1))
     by-month true d e =
         let m : t .month < 12 = ltb-true _ _ e in
-        let s : 1 ≤ monthLength (t .year) (t .month + 1) = month-some (t .year) (t .month + 1) (omega arith) (omega arith) in
+        let s : 1 ≤ monthLength (t .year) (t .month + 1) = month-least (t .year) (t .month + 1) (omega arith) (omega arith) in
         let n : daysBefore (t .year) (t .month + 1) ≡ daysBefore (t .year) (t .month) + monthLength (t .year) (t .month) = month-next (t .year) (t .month) (v .one) m in
         record { valid = record { late = v .late; one = omega arith; twelve = omega arith; first = omega arith; last = s }; more = omega arith }
     by-month false d e =
         let m : t .month ≡ 12 = le-antisymm (v .twelve) (ltb-false _ _ e) in
         let l : daysBefore (t .year) (t .month) + monthLength (t .year) (t .month) ≡ 365 + leapDay (t .year) = subst (λ (k : ℕ). daysBefore (t .year) k + monthLength (t .year) k ≡ 365 + leapDay (t .year)) (sym m) (month-last (t .year)) in
-        record { valid = record { late = omega (arith, v .late); one = omega arith; twelve = omega arith; first = omega arith; last = month-some (t .year + 1) 1 (omega arith) (omega arith) }; more = omega (arith, years-suc (t .year) (v .late), before-one (t .year + 1)) }
+        record { valid = record { late = omega (arith, v .late); one = omega arith; twelve = omega arith; first = omega arith; last = month-least (t .year + 1) 1 (omega arith) (omega arith) }; more = omega (arith, years-suc (t .year) (v .late), before-one (t .year + 1)) }
 
     by-day : (b : Bool) → ltb (t .day) (monthLength (t .year) (t .month)) ≡ b → Steps t (cond b (date (t .year) (t .month) (t .day + 1)) (cond (ltb (t .month) 12) (date (t .year) (t .month + 1) 1) (date (t .year + 1) 1 1)))
     by-day true e =
@@ -72,14 +74,14 @@ start-index = refl
 
 pub after : (n : ℕ) → Found n (dateAfter n)
 unfolding dateAfter
-after zero = record { valid = record { late = omega arith; one = omega arith; twelve = omega arith; first = omega arith; last = month-some 1600 1 (omega arith) (omega arith) }; index = start-index }
+after zero = record { valid = record { late = omega arith; one = omega arith; twelve = omega arith; first = omega arith; last = month-least 1600 1 (omega arith) (omega arith) }; index = start-index }
 after (suc n) =
     let f : Found n (dateAfter n) = after n in
     let s : Steps (dateAfter n) (next (dateAfter n)) = step (dateAfter n) (f .valid) in
     record { valid = s .valid; index = s .more ∙ ap suc (f .index) }
 
 -- Two dates with one index are one date.
-pub years-mono : (k j : ℕ) → daysOfYears (suc k) ≤ daysOfYears (suc (k + j))
+years-mono : (k j : ℕ) → daysOfYears (suc k) ≤ daysOfYears (suc (k + j))
 years-mono k zero = rw add-zero (omega arith)
 years-mono k (suc j) =
     let h : daysOfYears (suc k) ≤ daysOfYears (suc (k + j)) = years-mono k j in

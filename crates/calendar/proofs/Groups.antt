@@ -1,4 +1,6 @@
--- The arithmetic on groups of 400, 100 and 4 years, counted from 1201-01-01. Assumes nothing.
+-- The arithmetic on groups of 400, 100 and 4 years, counted from 1201-01-01, so that a leap year comes last in its group. The quotients, each at most
+-- 3 where the last group may have a day more, give the years before a day, and the remainder is below the length of its year: only a fourth year has
+-- a 366th day, and only the last fourth year of a century that ends in a leap year reaches it. Assumes nothing.
 use Prim.Native.Nat.{ℕ, _+_, _-_, _*_, _/_, _%_, _<_, _≤_}
 use mathlib.Core.Path.{_≡_, refl, ap, sym, _∙_, subst}
 use mathlib.Core.Logic.{_⊎_, inl, inr, ⊎-elim}

@@ -1,4 +1,5 @@
--- Dates and day numbers are inverse, and day numbers rise by one from a date to the next. Assumes nothing.
+-- Dates and day numbers are inverse, and day numbers rise by one from a date to the next. A date is accepted exactly when its index is from that of
+-- 1900-01-01 to that of 2100-12-31, and there an index and a day number differ by the offset. Assumes nothing.
 use Prim.Native.Nat.{ℕ, suc, _+_, _-_, _≤_}
 use mathlib.Core.Path.{_≡_, ap, sym, _∙_, subst}
 use mathlib.Core.Bool.{false}
@@ -34,22 +35,22 @@ pub record AcceptedDate (y m d : ℕ) : Type 0 where
 valid : (y m d : ℕ) → AcceptedDate y m d → Valid (date y m d)
 valid y m d a = record { late = omega (arith, a .from); one = a .one; twelve = a .twelve; first = a .first; last = a .last }
 
--- PROMISE. An accepted date has its day number.
-pub accepted-day : (y m d : ℕ) → AcceptedDate y m d → dayOf y m d ≡ Day (dayAtIndex (dateIndex (date y m d)))
+-- an accepted date has its day number
+accepted-day : (y m d : ℕ) → AcceptedDate y m d → dayOf y m d ≡ Day (dayAtIndex (dateIndex (date y m d)))
 unfolding dayOf
 accepted-day y m d a =
     simp (le-ltb y firstYear (a .from), le-ltb lastYear y (a .to), le-ltb m 1 (a .one), le-ltb 12 m (a .twelve), le-ltb d 1 (a .first), le-ltb (monthLength y m) d (a .last))
 
 -- no case of a date applies
-pub none-date : (y m d : ℕ) → NoneApplies (dateCases y m d) → AcceptedDate y m d
+none-date : (y m d : ℕ) → NoneApplies (dateCases y m d) → AcceptedDate y m d
 none-date y m d h =
     let p = both-false (ltb y firstYear) (ltb lastYear y) (h .0) in
     let q = both-false (ltb m 1) (ltb 12 m) (h .1 .0) in
     let r = both-false (ltb d 1) (ltb (monthLength y m) d) (h .1 .1 .0) in
     record { from = ltb-false _ _ (p .0); to = ltb-false _ _ (p .1); one = ltb-false _ _ (q .0); twelve = ltb-false _ _ (q .1); first = ltb-false _ _ (r .0); last = ltb-false _ _ (r .1) }
 
--- PROMISE. Only an accepted date has a day number.
-pub day-accepted : (y m d : ℕ) (z : ℤ) → dayOf y m d ≡ Day z → AcceptedDate y m d
+-- only an accepted date has a day number
+day-accepted : (y m d : ℕ) (z : ℤ) → dayOf y m d ≡ Day z → AcceptedDate y m d
 unfolding dayOf
 day-accepted y m d z e = none-date y m d (answered-none NoDay (dateCases y m d) _ (Day z) (λ n p. impossible (cc)) e .0)
 

@@ -1,4 +1,5 @@
--- Laws of the calendar's definitions. Assumes nothing.
+-- Laws of the calendar's definitions. A leap year by its three tests; the days of k years by quotients, since from a year to the next each quotient
+-- moves where that year passes its test. Assumes nothing.
 use Prim.Native.Nat.{ℕ, zero, suc, _+_, _-_, _*_, _/_, _%_, _≤_}
 use mathlib.Core.Path.{_≡_, refl}
 use mathlib.Core.Bool.{Bool, true, false, cond, not, _&&_, _||_}
@@ -25,7 +26,7 @@ pub leap-cases : (y : ℕ) → Leap y (leapDay y)
 unfolding leapYear leapDay
 leap-cases y = leap-of y (eqb (y % 4) 0) (eqb (y % 100) 0) (eqb (y % 400) 0) refl refl refl
 
-pub length-by : (b : Bool) → sum (monthLengths b) ≡ 365 + cond b 1 0
+length-by : (b : Bool) → sum (monthLengths b) ≡ 365 + cond b 1 0
 unfolding sum monthLengths
 length-by true = refl
 length-by false = refl

@@ -1,4 +1,5 @@
--- What holds of a year's months, each by a test that antt computes. Assumes nothing.
+-- What holds of a year's months. There are two kinds of year and twelve months, so each rule is a test that antt computes for every month of both
+-- kinds (for every day of both, where the month of a day is found); the laws below the tests say what they mean of a year. Assumes nothing.
 use Prim.Native.Nat.{ℕ, zero, suc, _+_, _-_, _<_, _≤_}
 use mathlib.Core.Path.{_≡_, refl}
 use mathlib.Core.Bool.{Bool, true, false, cond, _&&_, _||_}
@@ -12,6 +13,7 @@ use Rattle.calendar.specs.Dates.{leapYear, monthLengths, sum, monthLengt
 use Rattle.calendar.specs.Inner.{leapDay, monthAt}
 use Rattle.calendar.proofs.Below.{allBelow, below}
 
+-- of a leap year or another: its extra day, the days before a month, a month's length
 abbrev day : Bool → ℕ
 day b = cond b 1 0
 
@@ -28,7 +30,8 @@ befores = 0 ∷ 31 ∷ 59 ∷ 90 ∷ 120 ∷ 151 ∷ 181 ∷ 212 ∷ 243 ∷ 273
 abbrev pub commons : List ℕ
 commons = 31 ∷ 28 ∷ 31 ∷ 30 ∷ 31 ∷ 30 ∷ 31 ∷ 31 ∷ 30 ∷ 31 ∷ 30 ∷ 31 ∷ []
 
--- The tests, at the month suc i.
+-- ---- the tests, at the month suc i
+
 starts : Bool → ℕ → Bool
 starts b i = eqb (getD befores (suc i - 1) 0 + cond (leb (suc i) 2) 0 (day b)) (before b (suc i))
 
@@ -41,8 +44,8 @@ follow b i = eqb (before b (suc i + 1)) (before b (suc i) + len b (suc i))
 inside : Bool → ℕ → Bool
 inside b i = leb (before b (suc i) + len b (suc i)) (365 + day b)
 
-some : Bool → ℕ → Bool
-some b i = leb 1 (len b (suc i))
+least : Bool → ℕ → Bool
+least b i = leb 1 (len b (suc i))
 
 short : Bool → ℕ → Bool
 short b i = ltb (len b (suc i)) 32
@@ -74,10 +77,10 @@ unfolding both short sum monthLengths
 all-short true = tt
 all-short false = tt
 
-all-some : both some 12
-unfolding both some sum monthLengths
-all-some true = tt
-all-some false = tt
+all-least : both least 12
+unfolding both least sum monthLengths
+all-least true = tt
+all-least false = tt
 
 all-follow : both follow 11
 unfolding both follow sum monthLengths
@@ -99,7 +102,8 @@ unfolding found sum monthLengths
 all-found true = tt
 all-found false = tt
 
--- What they say of a month of a year.
+-- ---- what they say of a month of a year
+
 unfolded : (b : Bool) → cond b 1 0 ≤ 1
 unfolded true = omega arith
 unfolded false = omega arith
@@ -107,9 +111,6 @@ unfolded false = omega arith
 pub leap-small : (y : ℕ) → leapDay y ≤ 1
 unfolding leapDay
 leap-small y = unfolded (leapYear y)
-
-below-of : {i n : ℕ} → suc i ≤ n → i < n
-below-of h = h
 
 pub before-table : (y m : ℕ) → 1 ≤ m → m ≤ 12 → getD befores (m - 1) 0 + cond (leb m 2) 0 (leapDay y) ≡ daysBefore y m
 unfolding daysBefore leapDay starts both
@@ -131,10 +132,10 @@ unfolding daysBefore monthLength leapDay inside both
 month-inside y zero h k = omega arith
 month-inside y (suc i) h k = leb→le _ _ (below (inside (leapYear y)) 12 (all-inside (leapYear y)) i k)
 
-pub month-some : (y m : ℕ) → 1 ≤ m → m ≤ 12 → 1 ≤ monthLength y m
-unfolding monthLength some both
-month-some y zero h k = omega arith
-month-some y (suc i) h k = leb→le _ _ (below (some (leapYear y)) 12 (all-some (leapYear y)) i k)
+pub month-least : (y m : ℕ) → 1 ≤ m → m ≤ 12 → 1 ≤ monthLength y m
+unfolding monthLength least both
+month-least y zero h k = omega arith
+month-least y (suc i) h k = leb→le _ _ (below (least (leapYear y)) 12 (all-least (leapYear y)) i k)
 
 pub month-short : (y m : ℕ) → 1 ≤ m → m ≤ 12 → monthLength y m < 32
 unfolding monthLength short both

@@ -14,6 +14,7 @@ use Rattle.calendar.specs.declared.DayAnswer.the-variants.{Day, NoDay}
 use Rattle.calendar.specs.declared.DateAnswer.{DateAnswer}
 use Rattle.calendar.specs.declared.DateAnswer.the-variants.{OnDate, NoDate}
 
+-- the date of a year, a month and a day
 abbrev pub date : ℕ → ℕ → ℕ → Date
 date y m d = record { year = y; month = m; day = d }
 
@@ -29,6 +30,7 @@ monthLengths leap = 31 ∷ cond leap 29 28 ∷ 31 ∷ 30 ∷ 31 ∷ 30 ∷ 31 �
 unfoldable pub monthLength : ℕ → ℕ → ℕ
 monthLength y m = getD (monthLengths (leapYear y)) (m - 1) 0
 
+-- the sum of a list
 unfoldable pub sum : List ℕ → ℕ
 sum [] = 0
 sum (x ∷ xs) = x + sum xs

@@ -11,11 +11,11 @@ use Rattle.calendar.specs.declared.InstantAnswer.the-variants.{AtInstant
 
 -- the microseconds of a time of day
 abbrev pub microsOfTime : ℕ → ℕ → ℕ → ℕ → ℕ
-microsOfTime hour minute second microsecond = ((hour * 60 + minute) * 60 + second) * 1000000 + microsecond
+microsOfTime hour minute second microsecond = ((hour * 60 + minute) * 60 + second) * 1_000_000 + microsecond
 
 -- the refusals of a time of day
 abbrev pub timeCases : (hour minute second microsecond : ℕ) → List Case
-timeCases hour minute second microsecond = case 4 (ltb 23 hour) ∷ case 5 (ltb 59 minute) ∷ case 6 (ltb 59 second) ∷ case 7 (ltb 999999 microsecond) ∷ []
+timeCases hour minute second microsecond = case 4 (ltb 23 hour) ∷ case 5 (ltb 59 minute) ∷ case 6 (ltb 59 second) ∷ case 7 (ltb 999_999 microsecond) ∷ []
 
 -- the instant of a date and a time, or its refusal: the date's come first
 unfoldable pub instantOf : (year month day hour minute second microsecond : ℕ) → InstantAnswer

@@ -3,6 +3,7 @@ use instants::IndexAnswer;
 use instants::Instant;
 ghost use mathlib.Core.Path.{_≡_};
 ghost use Prim.Native.Nat.{_+_, _≤_, _<_};
+ghost use Rattle.instants.specs.Inner.{indexLimit};
 ghost use Rattle.calendar.specs.Dates.{monthLength, daysOfYears, daysBefore, dateAfter, dayOf, dateOf};
 ghost use Rattle.calendar.specs.Times.{instantOf};
 ghost use Rattle.calendar.specs.Inner.{leapDay, timeOf, monthAt, AtMost3, IsYearDay};
@@ -12,22 +13,41 @@ const FIRST_YEAR: u64 = 1900;
 
 const LAST_YEAR: u64 = 2100;
 
+// The microseconds of a second.
+const SECOND: u64 = 1000000;
+
+// The days of 400, 100 and 4 years and of one, where a leap year comes last in its group of four and is left out at the end of a century.
+const DAYS_400: u64 = 146097;
+
+const DAYS_100: u64 = 36524;
+
+const DAYS_4: u64 = 1461;
+
+const DAYS_1: u64 = 365;
+
+// The days from 1201-01-01, where groups of 400 years begin, to 1600-01-01.
+const DAYS_FROM_1201: u64 = 145731;
+
+// A date of the Gregorian calendar.
 pub struct Date {
     pub year: u64,
     pub month: u64,
     pub day: u64,
 }
 
+// A date's day number, or its refusal number.
 pub enum DayAnswer {
     Day(i64),
     NoDay(u32),
 }
 
+// A day number's date, or its refusal number.
 pub enum DateAnswer {
     OnDate(Date),
     NoDate(u32),
 }
 
+// The instant of a date and a time of day, or its refusal number.
 pub enum InstantAnswer {
     AtInstant(Instant),
     NoInstant(u32),
@@ -69,6 +89,7 @@ fn years(k: u64) -> u64
     365 * k + (k + 3) / 4 + (k + 399) / 400 - (k + 99) / 100
 }
 
+// The days of the month m of the year y.
 fn month_length(y: u64, m: u64) -> u64
     requires { ⌜ (1 ≤ m) × (m ≤ 12) ⌝ }
     ensures { λ r. ⌜ (r ≡ monthLength y m) × (r < 32) ⌝ }
@@ -80,6 +101,7 @@ fn month_length(y: u64, m: u64) -> u64
     LENGTHS[i]
 }
 
+// The days of the year y before its month m.
 fn before(y: u64, m: u64) -> u64
     requires { ⌜ (1 ≤ m) × (m ≤ 12) ⌝ }
     ensures { λ r. ⌜ (r ≡ daysBefore y m) × (r < 366) ⌝ }
@@ -95,22 +117,13 @@ fn before(y: u64, m: u64) -> u64
 pub fn day_of(year: u64, month: u64, day: u64) -> DayAnswer
     ensures { λ r. ⌜ r ≡ dayOf year month day ⌝ }
 {
-    if year < FIRST_YEAR {
+    if (year < FIRST_YEAR) | (LAST_YEAR < year) {
         return DayAnswer::NoDay(1);
     }
-    if LAST_YEAR < year {
-        return DayAnswer::NoDay(1);
-    }
-    if month < 1 {
+    if (month < 1) | (12 < month) {
         return DayAnswer::NoDay(2);
     }
-    if 12 < month {
-        return DayAnswer::NoDay(2);
-    }
-    if day < 1 {
-        return DayAnswer::NoDay(3);
-    }
-    if month_length(year, month) < day {
+    if (day < 1) | (month_length(year, month) < day) {
         return DayAnswer::NoDay(3);
     }
     DayAnswer::Day(instants::day_at_index(years(year - 1600) + before(year, month) + (day - 1)))
@@ -127,7 +140,7 @@ fn month(leap: u64, e: u64) -> u64
     (12 * (e + 2 - leap) + 373) / 367
 }
 
-// AtIndex most 3.
+// The lesser of x and 3: the last group of a larger one may have a day more, and takes it.
 fn capped(x: u64) -> u64
     ensures { λ r. ⌜ AtMost3 x r ⌝ }
 {
@@ -136,26 +149,26 @@ fn capped(x: u64) -> u64
 
 // The year of the day n, and the day of that year: groups of 400, 100 and 4 years, and years, from 1201-01-01 on.
 fn year_day(n: u64) -> YearDay
-    requires { ⌜ n < 1000000 ⌝ }
+    requires { ⌜ n < indexLimit ⌝ }
     ensures { λ r. ⌜ IsYearDay n r ⌝ }
 {
-    let t = n + 145731;
-    let a = t / 146097;
-    let ra = t % 146097;
-    let b = capped(ra / 36524);
-    let rb = ra - b * 36524;
-    let c = rb / 1461;
-    let rc = rb % 1461;
-    let d = capped(rc / 365);
+    let t = n + DAYS_FROM_1201;
+    let a = t / DAYS_400;
+    let ra = t % DAYS_400;
+    let b = capped(ra / DAYS_100);
+    let rb = ra - b * DAYS_100;
+    let c = rb / DAYS_4;
+    let rc = rb % DAYS_4;
+    let d = capped(rc / DAYS_1);
     YearDay {
         year: 1201 + 400 * a + 100 * b + 4 * c + d,
-        rest: rc - d * 365,
+        rest: rc - d * DAYS_1,
     }
 }
 
 // The date n days after 1600-01-01.
 fn date_after(n: u64) -> Date
-    requires { ⌜ n < 1000000 ⌝ }
+    requires { ⌜ n < indexLimit ⌝ }
     ensures { λ r. ⌜ r ≡ dateAfter n ⌝ }
 {
     let p = year_day(n);
@@ -195,7 +208,7 @@ fn time_of(day: i64, hour: u64, minute: u64, second: u64, microsecond: u64) -> I
     }
     InstantAnswer::AtInstant(Instant {
         day: day,
-        micros: ((hour * 60 + minute) * 60 + second) * 1000000 + microsecond,
+        micros: ((hour * 60 + minute) * 60 + second) * SECOND + microsecond,
     })
 }
 

@@ -1,4 +1,5 @@
--- What splitting and joining promise of each other. Assumes nothing.
+-- What splitting and joining promise of each other. A time word's microseconds are below its unit, so quotient and remainder give back the mark and
+-- them. Two days less than eight apart with one mark have indices that are equal modulo 8, and so are one day. Assumes nothing.
 use Prim.Native.Nat.{ℕ, zero, suc, _+_, _-_, _*_, _/_, _%_, _<_, _≤_}
 use mathlib.Core.Path.{_≡_, refl, ap, _∙_, sym, subst}
 use mathlib.Core.Bool.{Bool, true, false, cond, not}
@@ -36,18 +37,18 @@ was-split d m w e =
     let g : Split (words d (timeWord d m)) ≡ Split w = r .1 in
     record { accepted = none-accepted d m (r .0); is = cc }
 
--- an accepted instant is split
+-- PROMISE. An accepted instant is split.
 pub split-accepted : (d : ℤ) (m : ℕ) → IsAccepted d m → splitOf d m ≡ Split (words d (timeWord d m))
 unfolding splitOf
 split-accepted d m a = sym (answered-too NoSplit _ d m a)
 
 -- what it means that two words were joined
-pub record WasJoined (d : ℤ) (t : ℕ) (i : Instant) : Type 0 where
-  pub accepted : AcceptedAt d (t % markUnit) (dayIndex d)
-  pub marked : t / markUnit ≡ mark d
-  pub is : i ≡ instant d (t % markUnit)
+record WasJoined (d : ℤ) (t : ℕ) (i : Instant) : Type 0 where
+  accepted : AcceptedAt d (t % markUnit) (dayIndex d)
+  marked : t / markUnit ≡ mark d
+  is : i ≡ instant d (t % markUnit)
 
-pub was-joined : (d : ℤ) (t : ℕ) (i : Instant) → joinOf d t ≡ Joined i → WasJoined d t i
+was-joined : (d : ℤ) (t : ℕ) (i : Instant) → joinOf d t ≡ Joined i → WasJoined d t i
 unfolding joinOf
 was-joined d t i e =
     let r = answered-none NoJoin (joinCases d t) (Joined (instant d (t % markUnit))) (Joined i) (λ n p. impossible (cc)) e in
@@ -65,7 +66,7 @@ split-then-join d m a =
     let k : AcceptedAt d m (dayIndex d) = accepted-at d m (dayIndex d) a in
     simp (low-part m (mark d) (k .less), high-part m (mark d) (k .less), k .inside, k .within, eq-eqb (mark d) (mark d) refl)
 
--- PROMISE. Words that are joined are those that their instant is split into.
+-- words that are joined are those that their instant is split into
 pub join-then-split : (d : ℤ) (t : ℕ) (i : Instant) → joinOf d t ≡ Joined i → splitOf (i .day) (i .micros) ≡ Split (words d t)
 join-then-split d t i e =
     let j : WasJoined d t i = was-joined d t i e in

@@ -25,6 +25,7 @@ mark (negsuc n) = 7 - n % 8
 abbrev pub timeWord : ℤ → ℕ → ℕ
 timeWord d m = m + mark d * markUnit
 
+-- a day word and a time word
 abbrev pub words : ℤ → ℕ → ClockWords
 words d t = record { day = d; time = t }
 

@@ -4,25 +4,28 @@ use instants::Instant;
 ghost use mathlib.Core.Path.{_≡_};
 ghost use Rattle.clock.specs.Words.{splitOf, joinOf};
 
-// What one mark weighs in a time word, 2^37.
-const MARK_UNIT: u64 = 137438953472;
+// What one mark weighs in a time word: 2^37 microseconds, more than a day has.
+const MARK_UNIT: u64 = 1 << 37;
 
+// A day word, which is a day number, and a time word: microseconds with the day's mark above them.
 pub struct ClockWords {
     pub day: i64,
     pub time: u64,
 }
 
+// The words of an instant, or its refusal number.
 pub enum SplitAnswer {
     Split(ClockWords),
     NoSplit(u32),
 }
 
+// The instant of two words, or their refusal number.
 pub enum JoinAnswer {
     Joined(Instant),
     NoJoin(u32),
 }
 
-// The words of an instant. The index of a day number is seven more than it, modulo 8.
+// The words of an instant, or refusal 8 or 9. The day number's mark is its index and 7, modulo 8.
 pub fn split(day: i64, micros: u64) -> SplitAnswer
     ensures { λ r. ⌜ r ≡ splitOf day micros ⌝ }
 {
@@ -35,7 +38,7 @@ pub fn split(day: i64, micros: u64) -> SplitAnswer
     }
 }
 
-// The instant of two words.
+// The instant of two words, or refusal 8, 9 or 10.
 pub fn join(day: i64, time: u64) -> JoinAnswer
     ensures { λ r. ⌜ r ≡ joinOf day time ⌝ }
 {

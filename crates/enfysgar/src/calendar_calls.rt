@@ -6,6 +6,7 @@ ghost use mathlib.Core.Path.{_≡_};
 ghost use Rattle.calendar.specs.Dates.{dayOf, dateOf, dayNumberOf, dateRefusalOf, yearOf, monthOf, dayOfMonthOf, dayRefusalOf};
 ghost use Rattle.calendar.specs.Times.{instantOf, instantDayOf, instantMicrosOf, instantRefusalOf};
 
+// The day number of a date.
 #[no_mangle]
 pub extern "C" fn enfys_date_to_day(year: u64, month: u64, day: u64) -> i64
     ensures { λ r. ⌜ r ≡ dayNumberOf (dayOf year month day) ⌝ }
@@ -16,6 +17,7 @@ pub extern "C" fn enfys_date_to_day(year: u64, month: u64, day: u64) -> i64
     }
 }
 
+// The refusal number of a date.
 #[no_mangle]
 pub extern "C" fn enfys_date_refusal(year: u64, month: u64, day: u64) -> u32
     ensures { λ r. ⌜ r ≡ dateRefusalOf (dayOf year month day) ⌝ }
@@ -26,6 +28,7 @@ pub extern "C" fn enfys_date_refusal(year: u64, month: u64, day: u64) -> u32
     }
 }
 
+// The year of a day number.
 #[no_mangle]
 pub extern "C" fn enfys_day_to_year(day: i64) -> u64
     ensures { λ r. ⌜ r ≡ yearOf (dateOf day) ⌝ }
@@ -36,6 +39,7 @@ pub extern "C" fn enfys_day_to_year(day: i64) -> u64
     }
 }
 
+// The month of a day number.
 #[no_mangle]
 pub extern "C" fn enfys_day_to_month(day: i64) -> u64
     ensures { λ r. ⌜ r ≡ monthOf (dateOf day) ⌝ }
@@ -46,6 +50,7 @@ pub extern "C" fn enfys_day_to_month(day: i64) -> u64
     }
 }
 
+// The day of the month of a day number.
 #[no_mangle]
 pub extern "C" fn enfys_day_to_day_of_month(day: i64) -> u64
     ensures { λ r. ⌜ r ≡ dayOfMonthOf (dateOf day) ⌝ }
@@ -56,6 +61,7 @@ pub extern "C" fn enfys_day_to_day_of_month(day: i64) -> u64
     }
 }
 
+// The refusal number of a day number.
 #[no_mangle]
 pub extern "C" fn enfys_day_refusal(day: i64) -> u32
     ensures { λ r. ⌜ r ≡ dayRefusalOf (dateOf day) ⌝ }
@@ -66,6 +72,7 @@ pub extern "C" fn enfys_day_refusal(day: i64) -> u32
     }
 }
 
+// The day number of a date and time.
 #[no_mangle]
 pub extern "C" fn enfys_instant_day(
     year: u64,
@@ -84,6 +91,7 @@ pub extern "C" fn enfys_instant_day(
     }
 }
 
+// The microseconds of a date and time, from 0 h on.
 #[no_mangle]
 pub extern "C" fn enfys_instant_micros(
     year: u64,
@@ -102,6 +110,7 @@ pub extern "C" fn enfys_instant_micros(
     }
 }
 
+// The refusal number of a date and time.
 #[no_mangle]
 pub extern "C" fn enfys_instant_refusal(
     year: u64,

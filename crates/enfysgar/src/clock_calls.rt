@@ -4,6 +4,7 @@ use clock::SplitAnswer;
 ghost use mathlib.Core.Path.{_≡_};
 ghost use Rattle.clock.specs.Words.{splitOf, joinOf, dayWordOf, timeWordOf, splitRefusalOf, joinedDayOf, joinedMicrosOf, joinRefusalOf};
 
+// The day word of an instant.
 #[no_mangle]
 pub extern "C" fn enfys_split_day_word(day: i64, micros: u64) -> i64
     ensures { λ r. ⌜ r ≡ dayWordOf (splitOf day micros) ⌝ }
@@ -14,6 +15,7 @@ pub extern "C" fn enfys_split_day_word(day: i64, micros: u64) -> i64
     }
 }
 
+// The time word of an instant.
 #[no_mangle]
 pub extern "C" fn enfys_split_time_word(day: i64, micros: u64) -> u64
     ensures { λ r. ⌜ r ≡ timeWordOf (splitOf day micros) ⌝ }
@@ -24,6 +26,7 @@ pub extern "C" fn enfys_split_time_word(day: i64, micros: u64) -> u64
     }
 }
 
+// The refusal number of splitting an instant.
 #[no_mangle]
 pub extern "C" fn enfys_split_refusal(day: i64, micros: u64) -> u32
     ensures { λ r. ⌜ r ≡ splitRefusalOf (splitOf day micros) ⌝ }
@@ -34,6 +37,7 @@ pub extern "C" fn enfys_split_refusal(day: i64, micros: u64) -> u32
     }
 }
 
+// The day number of two clock words.
 #[no_mangle]
 pub extern "C" fn enfys_join_day(day: i64, time: u64) -> i64
     ensures { λ r. ⌜ r ≡ joinedDayOf (joinOf day time) ⌝ }
@@ -44,6 +48,7 @@ pub extern "C" fn enfys_join_day(day: i64, time: u64) -> i64
     }
 }
 
+// The microseconds of two clock words.
 #[no_mangle]
 pub extern "C" fn enfys_join_micros(day: i64, time: u64) -> u64
     ensures { λ r. ⌜ r ≡ joinedMicrosOf (joinOf day time) ⌝ }
@@ -54,6 +59,7 @@ pub extern "C" fn enfys_join_micros(day: i64, time: u64) -> u64
     }
 }
 
+// The refusal number of two clock words.
 #[no_mangle]
 pub extern "C" fn enfys_join_refusal(day: i64, time: u64) -> u32
     ensures { λ r. ⌜ r ≡ joinRefusalOf (joinOf day time) ⌝ }

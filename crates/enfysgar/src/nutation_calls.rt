@@ -3,6 +3,7 @@ use nutation::NutationAnswer;
 ghost use mathlib.Core.Path.{_≡_};
 ghost use Rattle.nutation.specs.Ours.{nutationOf, xOf, yOf, uncertaintyOf, nutationRefusalOf};
 
+// The offset X.
 #[no_mangle]
 pub extern "C" fn enfys_nutation_x(day: i64, micros: u64) -> i64
     ensures { λ r. ⌜ r ≡ xOf (nutationOf day micros) ⌝ }
@@ -13,6 +14,7 @@ pub extern "C" fn enfys_nutation_x(day: i64, micros: u64) -> i64
     }
 }
 
+// The offset Y.
 #[no_mangle]
 pub extern "C" fn enfys_nutation_y(day: i64, micros: u64) -> i64
     ensures { λ r. ⌜ r ≡ yOf (nutationOf day micros) ⌝ }
@@ -23,6 +25,7 @@ pub extern "C" fn enfys_nutation_y(day: i64, micros: u64) -> i64
     }
 }
 
+// The uncertainty of either offset, rounded up.
 #[no_mangle]
 pub extern "C" fn enfys_nutation_uncertainty(day: i64, micros: u64) -> u64
     ensures { λ r. ⌜ r ≡ uncertaintyOf (nutationOf day micros) ⌝ }
@@ -33,6 +36,7 @@ pub extern "C" fn enfys_nutation_uncertainty(day: i64, micros: u64) -> u64
     }
 }
 
+// The refusal number of the offsets at an instant.
 #[no_mangle]
 pub extern "C" fn enfys_nutation_refusal(day: i64, micros: u64) -> u32
     ensures { λ r. ⌜ r ≡ nutationRefusalOf (nutationOf day micros) ⌝ }

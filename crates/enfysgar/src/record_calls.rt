@@ -4,6 +4,7 @@ ghost use mathlib.Core.Path.{_≡_};
 ghost use lib.ListN.{length};
 ghost use Rattle.record.specs.Records.{writeRefusal, written, readOf, recordDayOf, recordMicrosOf, recordUt1Of, recordLodOf, recordRateOf, readRefusalOf};
 
+// Writes a record into the first thirty bytes of the buffer. Returns the refusal number.
 #[no_mangle]
 pub extern "C" fn enfys_record_write(
     day: i64,
@@ -13,12 +14,13 @@ pub extern "C" fn enfys_record_write(
     rate: i32,
     buffer: &mut [u8],
 ) -> u32
-    ensures { λ r. ⌜ r ≡ writeRefusal day micros (length (now (buffer .entry))) ⌝ }
-    ensures { λ _. ⌜ now (buffer .exit) ≡ written day micros ut1 lod rate (now (buffer .entry)) ⌝ }
+    ensures refusal { λ r. ⌜ r ≡ writeRefusal day micros (length (now (buffer .entry))) ⌝ }
+    ensures buffer { λ _. ⌜ now (buffer .exit) ≡ written day micros ut1 lod rate (now (buffer .entry)) ⌝ }
 {
     record::write(day, micros, ut1, lod, rate, buffer)
 }
 
+// The day number in a record.
 #[no_mangle]
 pub extern "C" fn enfys_record_day(s: &[u8]) -> i64
     ensures { λ r. ⌜ r ≡ recordDayOf (readOf (now (s .entry))) ⌝ }
@@ -29,6 +31,7 @@ pub extern "C" fn enfys_record_day(s: &[u8]) -> i64
     }
 }
 
+// The microseconds in a record.
 #[no_mangle]
 pub extern "C" fn enfys_record_micros(s: &[u8]) -> u64
     ensures { λ r. ⌜ r ≡ recordMicrosOf (readOf (now (s .entry))) ⌝ }
@@ -39,6 +42,7 @@ pub extern "C" fn enfys_record_micros(s: &[u8]) -> u64
     }
 }
 
+// The effect on UT1 in a record.
 #[no_mangle]
 pub extern "C" fn enfys_record_ut1(s: &[u8]) -> i32
     ensures { λ r. ⌜ r ≡ recordUt1Of (readOf (now (s .entry))) ⌝ }
@@ -49,6 +53,7 @@ pub extern "C" fn enfys_record_ut1(s: &[u8]) -> i32
     }
 }
 
+// The effect on the length of day in a record.
 #[no_mangle]
 pub extern "C" fn enfys_record_lod(s: &[u8]) -> i32
     ensures { λ r. ⌜ r ≡ recordLodOf (readOf (now (s .entry))) ⌝ }
@@ -59,6 +64,7 @@ pub extern "C" fn enfys_record_lod(s: &[u8]) -> i32
     }
 }
 
+// The effect on the rotation rate in a record.
 #[no_mangle]
 pub extern "C" fn enfys_record_rate(s: &[u8]) -> i32
     ensures { λ r. ⌜ r ≡ recordRateOf (readOf (now (s .entry))) ⌝ }
@@ -69,6 +75,7 @@ pub extern "C" fn enfys_record_rate(s: &[u8]) -> i32
     }
 }
 
+// The refusal number of reading a record.
 #[no_mangle]
 pub extern "C" fn enfys_record_refusal(s: &[u8]) -> u32
     ensures { λ r. ⌜ r ≡ readRefusalOf (readOf (now (s .entry))) ⌝ }

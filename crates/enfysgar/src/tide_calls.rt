@@ -3,6 +3,7 @@ use tide::Doodson;
 ghost use mathlib.Core.Path.{_≡_};
 ghost use Rattle.tide.specs.Tidal.{tideOf, frequencyOf, phaseOf, tideRefusalOf, doodson};
 
+// The frequency, in cycles per day.
 #[no_mangle]
 pub extern "C" fn enfys_tide_frequency(
     day: i64,
@@ -27,6 +28,7 @@ pub extern "C" fn enfys_tide_frequency(
     tide::frequency(tide::frequency_and_phase(day, micros, k))
 }
 
+// The phase, in degrees.
 #[no_mangle]
 pub extern "C" fn enfys_tide_phase(
     day: i64,
@@ -51,6 +53,7 @@ pub extern "C" fn enfys_tide_phase(
     tide::phase(tide::frequency_and_phase(day, micros, k))
 }
 
+// The refusal number of an instant and six multipliers.
 #[no_mangle]
 pub extern "C" fn enfys_tide_refusal(
     day: i64,

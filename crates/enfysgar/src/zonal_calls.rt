@@ -3,6 +3,7 @@ use zonal::ZonalAnswer;
 ghost use mathlib.Core.Path.{_≡_};
 ghost use Rattle.zonal.specs.Ours.{zonalOf, ut1Of, lodOf, rateOf, zonalRefusalOf};
 
+// The effect on UT1, in nanoseconds.
 #[no_mangle]
 pub extern "C" fn enfys_zonal_ut1(day: i64, micros: u64) -> i32
     ensures { λ r. ⌜ r ≡ ut1Of (zonalOf day micros) ⌝ }
@@ -13,6 +14,7 @@ pub extern "C" fn enfys_zonal_ut1(day: i64, micros: u64) -> i32
     }
 }
 
+// The effect on the length of day, in picoseconds.
 #[no_mangle]
 pub extern "C" fn enfys_zonal_lod(day: i64, micros: u64) -> i32
     ensures { λ r. ⌜ r ≡ lodOf (zonalOf day micros) ⌝ }
@@ -23,6 +25,7 @@ pub extern "C" fn enfys_zonal_lod(day: i64, micros: u64) -> i32
     }
 }
 
+// The effect on the rotation rate, in 10^-20 radian per second.
 #[no_mangle]
 pub extern "C" fn enfys_zonal_rate(day: i64, micros: u64) -> i32
     ensures { λ r. ⌜ r ≡ rateOf (zonalOf day micros) ⌝ }
@@ -33,6 +36,7 @@ pub extern "C" fn enfys_zonal_rate(day: i64, micros: u64) -> i32
     }
 }
 
+// The refusal number of the corrections at an instant.
 #[no_mangle]
 pub extern "C" fn enfys_zonal_refusal(day: i64, micros: u64) -> u32
     ensures { λ r. ⌜ r ≡ zonalRefusalOf (zonalOf day micros) ⌝ }

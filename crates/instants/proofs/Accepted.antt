@@ -1,4 +1,5 @@
--- What acceptance and a day's index tell. Assumes nothing.
+-- What acceptance and a day's index tell: a day number is in range exactly where it has an index, an instant is accepted exactly where neither case
+-- applies, and a service that asks for acceptance first is refused by the same cases. Assumes nothing.
 use Prim.Native.Nat.{ℕ, _≤_, _<_}
 use mathlib.Core.Path.{_≡_, refl, ap, sym, _∙_}
 use mathlib.Core.Bool.{Bool, true, false, cond, _||_}
@@ -17,6 +18,7 @@ use Rattle.instants.specs.Instants.{outside, dayIndex, instantCases, acc
 use Rattle.instants.specs.Inner.{indexAnswer}
 use Rattle.instants.proofs.Signs.{firstIndex, lastIndex, Between, between}
 
+-- a day number without an index is outside
 pub index-outside : (z : ℤ) → indexAnswer z ≡ NoIndex → outside z ≡ true
 unfolding indexAnswer
 index-outside z e = by (outside z) e
@@ -54,6 +56,7 @@ inside-index z p =
     let j : b .it ≡ dayIndex z = sym (index-of z b) in
     record { inside = p; index = refl; low = omega (arith, b .low, j); high = omega (arith, b .high, j); is = b .is ∙ ap (λ (k : ℕ). pos k -ℤ pos indexOffset) j }
 
+-- one with an index has that index
 pub index-at : (z : ℤ) (n : ℕ) → indexAnswer z ≡ AtIndex n → HasIndex z n
 unfolding indexAnswer
 index-at z n e = by (outside z) refl e

@@ -1,4 +1,5 @@
--- Later instants: which are accepted, and that the sums of the code fit. Assumes nothing.
+-- Later instants. A day number in range that some days are added to is above the first day, so that a later instant is accepted unless it is past the
+-- last one; and the sums of the code fit, since a day number in range is small. Assumes nothing.
 use Prim.Native.Nat.{ℕ, _+_, _/_, _^_, _≤_, _<_}
 use mathlib.Core.Path.{_≡_, refl, _∙_}
 use mathlib.Core.Bool.{Bool, true, false, _||_, true≢false}

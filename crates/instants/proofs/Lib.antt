@@ -1,5 +1,6 @@
--- Impossible: a case that cannot occur. FirstRefusal: laws of refusals in their order. Signs: day numbers and their indices. Accepted: what an
--- accepted instant has, and how services hand its refusals on. LaterInstants: later instants. Moments: n and x of one instant.
+-- Laws. Impossible: a case that cannot occur. FirstRefusal: refusals in their order. Signs: a day number in range and its index. Accepted: what an
+-- accepted instant has, and how a service hands its refusals on. LaterInstants: which later instants are accepted. Moments: n and x of one instant.
+-- The folders prove the functions of src/.
 pub mod Impossible
 pub mod FirstRefusal
 pub mod Signs

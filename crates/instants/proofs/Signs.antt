@@ -1,4 +1,5 @@
--- Day numbers as integers, and their indices as natural numbers. Assumes nothing.
+-- Day numbers as integers, and their indices as natural numbers: a day number that passes both tests of the range is not negative, so it is its
+-- index less the offset, and in the code's 64 bits the offset can be added and taken away. Assumes nothing.
 use Prim.Native.Nat.{ℕ, _-_, _+_, _^_, _<_, _≤_, suc}
 use mathlib.Core.Path.{_≡_, refl, ap}
 use mathlib.Core.Bool.{Bool, true, false, cond, true≢false}
@@ -12,6 +13,7 @@ use mir.Val.{SFits, toZ, ofZ}
 use mir.Facts.{toZ-ofZ}
 use Rattle.instants.specs.Limits.{firstDay, lastDay, indexOffset}
 
+-- a difference of small numbers fits, whichever is the greater
 by : (t : Bool) (a b : ℕ) → a < 2 ^ 62 → b < 2 ^ 62 → SFits w64 (cond t (negsuc (b - suc a)) (pos (a - b)))
 by true a b h k = record { sfits = omega arith }
 by false a b h k = record { sfits = omega arith }
@@ -42,6 +44,7 @@ between (pos n) p q =
     record { it = n + indexOffset; low = omega arith; high = omega arith; is = simp (le-ltb (n + indexOffset) indexOffset (omega arith)) (ap pos e); up = refl }
 between (negsuc n) p q = absurd (true≢false p)
 
+-- the sum of the code, which holds z as its bits
 module _ (z : ℤ) (f : SFits w64 z) (b : Between z) where
   pub biased : toZ w64 (ofZ w64 z) +ℤ pos indexOffset ≡ pos (b .it)
   biased = rw (toZ-ofZ f) (b .up)

@@ -7,6 +7,10 @@ use Rattle.instants.specs.declared.Instant.{Instant}
 use Rattle.instants.specs.declared.IndexAnswer.{IndexAnswer}
 use Rattle.instants.specs.declared.IndexAnswer.the-variants.{AtIndex, NoIndex}
 
+-- indices below this, far more than the range has, are turned into dates and day numbers
+abbrev pub indexLimit : ℕ
+indexLimit = 1_000_000
+
 -- a day number's index, or that it has none in range
 unfoldable pub indexAnswer : ℤ → IndexAnswer
 indexAnswer z = cond (outside z) NoIndex (AtIndex (dayIndex z))

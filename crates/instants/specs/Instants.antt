@@ -13,6 +13,7 @@ use Rattle.instants.specs.declared.Instant.{Instant}
 use Rattle.instants.specs.declared.Acceptance.{Acceptance}
 use Rattle.instants.specs.declared.Acceptance.the-variants.{Accepted, NotAccepted}
 
+-- the instant of a day number and its microseconds
 abbrev pub instant : ℤ → ℕ → Instant
 instant d m = record { day = d; micros = m }
 

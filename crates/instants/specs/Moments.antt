@@ -1,4 +1,5 @@
 -- Time as one number: n, the microseconds since J2000.0, in which the exact sums are; x = n + 5 N, which is never negative, in which ours are.
+-- J2000.0 is day 51544 at noon.
 use Prim.Native.Nat.{ℕ, _+_, _*_, _-_}
 use lib.IntN.{ℤ, pos, _+ℤ_, _-ℤ_, _*ℤ_}
 use Rattle.instants.specs.Limits.{dayMicros, daysCovered}
@@ -12,7 +13,8 @@ sinceJ2000 d m = (d -ℤ pos 51544) *ℤ pos dayMicros +ℤ pos m -ℤ pos 43_20
 abbrev pub century : ℕ
 century = 3_155_760_000_000_000
 
--- x: of the day of index i and the microseconds m of that day
+-- x: of the day of index i and the microseconds m of that day. Five centuries of 36525 days before J2000.0 are 36527 days and a half before
+-- 1600-01-01 0 h, from which i counts.
 abbrev pub moment : ℕ → ℕ → ℕ
 moment i m = (i + 36527) * dayMicros + 43_200_000_000 + m
 

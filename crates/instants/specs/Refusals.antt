@@ -8,6 +8,7 @@ pub record Case : Type 0 where
   pub number : ℕ
   pub applies : Bool
 
+-- refusal n, where b holds
 abbrev pub case : ℕ → Bool → Case
 case n b = record { number = n; applies = b }
 

@@ -4,7 +4,7 @@ ghost use Prim.Native.Nat.{_<_};
 ghost use Rattle.instants.specs.Limits.{dayMicros, daysCovered};
 ghost use Rattle.instants.specs.Instants.{dayAtIndex, acceptance};
 ghost use Rattle.instants.specs.Moments as moments;
-ghost use Rattle.instants.specs.Inner.{indexAnswer, laterInstant, LaterBounds};
+ghost use Rattle.instants.specs.Inner.{indexLimit, indexAnswer, laterInstant, LaterBounds};
 
 // The day numbers of 1900-01-01 and 2100-12-31.
 const FIRST_DAY: i64 = 15020;
@@ -17,13 +17,18 @@ pub const DAY_MICROS: u64 = 86400000000;
 // A day's index counts from 1600-01-01, whose day number is minus this.
 const INDEX_OFFSET: i64 = 94553;
 
+// A moment counts from five Julian centuries of 36525 days before J2000.0: that is 36527 days and a half before 1600-01-01 0 h.
+const ORIGIN_DAYS: u64 = 36527;
+
+const HALF_DAY: u64 = 43200000000;
+
 // An instant: a day number (Modified Julian Date) and the microseconds of that day.
 pub struct Instant {
     pub day: i64,
     pub micros: u64,
 }
 
-// The index of a day number in range.
+// The index of a day number, or that it is not in range.
 pub enum IndexAnswer {
     AtIndex(u64),
     NoIndex,
@@ -50,7 +55,7 @@ pub fn day_index(day: i64) -> IndexAnswer
 
 // The day number of an index.
 pub fn day_at_index(n: u64) -> i64
-    requires { ⌜ n < 1000000 ⌝ }
+    requires { ⌜ n < indexLimit ⌝ }
     ensures { λ r. ⌜ r ≡ dayAtIndex n ⌝ }
 {
     (n as i64) - INDEX_OFFSET
@@ -81,10 +86,10 @@ pub fn later(day: i64, micros: u64, t: u64) -> Instant
     }
 }
 
-// The microseconds since five centuries before J2000.0: of a day's index and the microseconds of that day.
+// The moment of a day's index and the microseconds of that day: the microseconds since five centuries before J2000.0.
 pub fn moment(index: u64, micros: u64) -> u64
     requires { ⌜ (index < daysCovered) × (micros < dayMicros) ⌝ }
     ensures { λ r. ⌜ r ≡ moments.moment index micros ⌝ }
 {
-    (index + 36527) * DAY_MICROS + 43200000000 + micros
+    (index + ORIGIN_DAYS) * DAY_MICROS + HALF_DAY + micros
 }

@@ -1,4 +1,6 @@
--- What is parsed is what the grammar says, and how much of the bytes decides it. Assumes nothing.
+-- What is parsed is what the grammar says, and how much of the bytes decides it. A number that is written is the digits up to the first byte that is
+-- none, so it is found, and one that is found was written; five of them in turn are a line. A line has at most 55 bytes, and ends in a newline.
+-- Assumes nothing.
 use Prim.Native.Nat.{ℕ, suc, _+_, _-_, _≤_}
 use mathlib.Core.Path.{_≡_, refl, ap, _∙_, sym}
 use mathlib.Core.Bool.{Bool, true, false, cond}
@@ -12,9 +14,9 @@ use borrow.Author.Tests.{le-ltb, eq-eqb, ltb-false, eqb-true}
 use Rattle.line.specs.declared.Line.{Line}
 use Rattle.line.specs.declared.LineAnswer.{LineAnswer}
 use Rattle.line.specs.declared.LineAnswer.the-variants.{Parsed, BadLine}
-use Rattle.line.specs.Lines.{isDigit, digits, decimal, Start, Number, NoNumber, endedBy, numberOf, next, space, newline, lineOf}
+use Rattle.line.specs.Lines.{isDigit, digits, decimal, Start, Number, NoNumber, endedBy, readNumber, next, space, newline, lineOf}
 use Rattle.line.specs.Grammar.{Writes, IsLine}
-use Rattle.line.proofs.Scanning.{digits-more, digits-none}
+use Rattle.line.proofs.Scanning.{impossible, digits-more, digits-none}
 
 -- ---- a number
 
@@ -23,7 +25,7 @@ all-digits d ds e = by (isDigit d) refl
   where
     by : (t : Bool) → isDigit d ≡ t → (isDigit d ≡ true) × (digits ds ≡ ds)
     by true p = (p, cc (digits-more d ds p))
-    by false p = let w : _≡_ {A = ℕ} 0 1 = cc (digits-none d ds p) in let v : ⊥ = omega arith in absurd v
+    by false p = impossible (cc (digits-none d ds p))
 
 -- digits end at a byte that is none
 digits-end : (ds : List ℕ) (x : ℕ) (r : List ℕ) → digits ds ≡ ds → isDigit x ≡ false → digits (ds ++ x ∷ r) ≡ ds
@@ -33,11 +35,11 @@ digits-end (d ∷ ds) x r e n =
     digits-more d (ds ++ x ∷ r) (a .0) ∙ ap (λ (l : List ℕ). d ∷ l) (digits-end ds x r (a .1) n)
 
 -- a number that is written is found
-number-is : (end : ℕ) (ds : List ℕ) {v : ℕ} → isDigit end ≡ false → Writes ds v → (r : List ℕ) → numberOf end (ds ++ end ∷ r) ≡ Number v r
-unfolding numberOf
+number-is : (end : ℕ) (ds : List ℕ) {v : ℕ} → isDigit end ≡ false → Writes ds v → (r : List ℕ) → readNumber end (ds ++ end ∷ r) ≡ Number v r
+unfolding readNumber
 number-is end ds n w r =
     rw (digits-end ds end r (w .every) n)
-    (simp (le-ltb (length ds) 1 (w .some), le-ltb 10 (length ds) (w .few), drop-append-seam ds (end ∷ r), eq-eqb end end refl, w .value))
+    (simp (le-ltb (length ds) 1 (w .least), le-ltb 10 (length ds) (w .few), drop-append-seam ds (end ∷ r), eq-eqb end end refl, w .value))
 
 digits-split : (s : List ℕ) → digits s ++ drop (length (digits s)) s ≡ s
 unfolding digits
@@ -63,27 +65,27 @@ record Begins (end : ℕ) (s : List ℕ) (v : ℕ) (r : List ℕ) : Type 0 where
   writes : Writes (digits s) v
 
 -- a number that is found is written
-begins : (end : ℕ) (s : List ℕ) (v : ℕ) (r : List ℕ) → numberOf end s ≡ Number v r → Begins end s v r
-unfolding numberOf
+begins : (end : ℕ) (s : List ℕ) (v : ℕ) (r : List ℕ) → readNumber end s ≡ Number v r → Begins end s v r
+unfolding readNumber
 begins end s v r e = by (ltb (length (digits s)) 1) (ltb 10 (length (digits s))) (drop (length (digits s)) s) refl refl refl e
   where
     ends : (t : List ℕ) → endedBy end (decimal (digits s)) t ≡ Number v r → (t ≡ end ∷ r) × (decimal (digits s) ≡ v)
-    ends [] e = let w : _≡_ {A = ℕ} 0 1 = cc in let v : ⊥ = omega arith in absurd v
+    ends [] e = impossible (cc)
     ends (x ∷ t) e = at (eqb x end) refl e
       where
         at : (a : Bool) → eqb x end ≡ a → cond a (Number (decimal (digits s)) t) NoNumber ≡ Number v r → (x ∷ t ≡ end ∷ r) × (decimal (digits s) ≡ v)
         at true p e = let q : x ≡ end = eqb-true x end p in (cc, cc)
-        at false p e = let w : _≡_ {A = ℕ} 0 1 = cc in let v : ⊥ = omega arith in absurd v
+        at false p e = impossible (cc)
 
     by : (a b : Bool) (t : List ℕ) → ltb (length (digits s)) 1 ≡ a → ltb 10 (length (digits s)) ≡ b → drop (length (digits s)) s ≡ t
         → cond a NoNumber (cond b NoNumber (endedBy end (decimal (digits s)) t)) ≡ Number v r → Begins end s v r
-    by true b t p q d e = let w : _≡_ {A = ℕ} 0 1 = cc in let v : ⊥ = omega arith in absurd v
-    by false true t p q d e = let w : _≡_ {A = ℕ} 0 1 = cc in let v : ⊥ = omega arith in absurd v
+    by true b t p q d e = impossible (cc)
+    by false true t p q d e = impossible (cc)
     by false false t p q d e =
         let f = ends t e in
         record {
           bytes = sym (digits-split s) ∙ ap (λ (l : List ℕ). digits s ++ l) (d ∙ f .0);
-          writes = record { every = digits-all s; some = ltb-false (length (digits s)) 1 p; few = ltb-false 10 (length (digits s)) q; value = f .1 };
+          writes = record { every = digits-all s; least = ltb-false (length (digits s)) 1 p; few = ltb-false 10 (length (digits s)) q; value = f .1 };
         }
 
 -- ---- a line
@@ -97,7 +99,7 @@ record Went (a : Start) (f : ℕ → List ℕ → LineAnswer) (l : Line) : Type 
 
 went : (a : Start) (f : ℕ → List ℕ → LineAnswer) (l : Line) → next a f ≡ Parsed l → Went a f l
 went (Number v r) f l e = record { number = v; left = r; found = refl; then = e }
-went NoNumber f l e = let w : _≡_ {A = ℕ} 0 1 = cc in let v : ⊥ = omega arith in absurd v
+went NoNumber f l e = impossible (cc)
 
 regroup : (a b c d e f : List ℕ) → a ++ b ++ c ++ d ++ e ++ f ≡ a ++ (b ++ (c ++ (d ++ (e ++ f))))
 regroup a b c d e f = simp append-assoc
@@ -130,11 +132,11 @@ whole s s₁ s₂ s₃ s₄ s₅ y m d c e p₁ p₂ p₃ p₄ p₅ =
 is-line : (s : List ℕ) (l : Line) → lineOf s ≡ Parsed l → IsLine s l
 unfolding lineOf
 is-line s l e =
-    let a = went (numberOf space s) _ l e in
-    let b = went (numberOf space (a .left)) _ l (a .then) in
-    let c = went (numberOf space (b .left)) _ l (b .then) in
-    let d = went (numberOf space (c .left)) _ l (c .then) in
-    let f = went (numberOf newline (d .left)) _ l (d .then) in
+    let a = went (readNumber space s) _ l e in
+    let b = went (readNumber space (a .left)) _ l (a .then) in
+    let c = went (readNumber space (b .left)) _ l (b .then) in
+    let d = went (readNumber space (c .left)) _ l (c .then) in
+    let f = went (readNumber newline (d .left)) _ l (d .then) in
     let q : record { year = a .number; month = b .number; day = c .number; count = d .number; step = f .number } ≡ l = cc (f .then) in
     rw q at
     (whole s (a .left) (b .left) (c .left) (d .left) (f .left) (a .number) (b .number) (c .number) (d .number) (f .number)
@@ -190,7 +192,7 @@ with-rest {s} {l} w t r e =
       is-step = w .is-step;
     })
 
--- PROMISE. The first 55 bytes decide: five times ten digits, four spaces and the newline.
+-- the first 55 bytes decide: five times ten digits, four spaces and the newline
 pub first-bytes : (s : List ℕ) → lineOf (take 55 s) ≡ lineOf s
 first-bytes s = same-lines (take 55 s) s longer shorter
   where
@@ -209,7 +211,7 @@ first-bytes s = same-lines (take 55 s) s longer shorter
         with-rest w (take 55 s) (take (54 - length p) (w .rest))
         (ap (take 55) (w .bytes) ∙ (ap (λ (j : ℕ). take j (p ++ newline ∷ w .rest)) k ∙ take-append-add p (newline ∷ w .rest) (suc (54 - length p))))
 
--- PROMISE. Bytes with no newline among them are a bad line.
+-- bytes with no newline among them are a bad line
 pub no-newline : (s : List ℕ) → ((i : ℕ) → getD s i 0 ≡ newline → ⊥) → lineOf s ≡ BadLine
 no-newline s none = by (lineOf s) refl
   where

@@ -1,4 +1,4 @@
--- What follows a newline. Assumes nothing.
+-- What follows the first newline is not looked at: each of the five numbers either ends before it, or is the last that is read. Assumes nothing.
 use Prim.Native.Nat.{ℕ, suc, _≤_}
 use mathlib.Core.Path.{_≡_, refl, ap}
 use mathlib.Core.Bool.{Bool, true, false, cond}
@@ -8,7 +8,7 @@ use lib.Dec.{eqb, ltb}
 use lib.ListN.{length, drop}
 use lib.Seq.{drop-append-le}
 use Rattle.line.specs.declared.LineAnswer.{LineAnswer}
-use Rattle.line.specs.Lines.{isDigit, digits, decimal, Start, Number, NoNumber, endedBy, numberOf, next, space, newline, lineOf}
+use Rattle.line.specs.Lines.{isDigit, digits, decimal, Start, Number, NoNumber, endedBy, readNumber, next, space, newline, lineOf}
 use Rattle.line.proofs.Scanning.{digits-more, digits-none}
 
 -- a list's digits, with a newline after the list
@@ -25,8 +25,8 @@ digits-newline (x ∷ s) t = by (isDigit x) refl (digits-newline s t)
 begin : ℕ → List ℕ → List ℕ → Start
 begin end ds s = cond (ltb (length ds) 1) NoNumber (cond (ltb 10 (length ds)) NoNumber (endedBy end (decimal ds) s))
 
-number-newline : (end : ℕ) (s t : List ℕ) → numberOf end (s ++ newline ∷ t) ≡ begin end (digits s) (drop (length (digits s)) s ++ newline ∷ t)
-unfolding numberOf begin
+number-newline : (end : ℕ) (s t : List ℕ) → readNumber end (s ++ newline ∷ t) ≡ begin end (digits s) (drop (length (digits s)) s ++ newline ∷ t)
+unfolding readNumber begin
 number-newline end s t =
     let d = digits-newline s t in
     rw (d .0, drop-append-le (length (digits s)) s (newline ∷ t) (d .1))
@@ -38,7 +38,7 @@ pick v x y f g h false = refl
 module _ (t u : List ℕ) where
   -- two ways on that agree, whether the newline ends the number or comes later
   step : (end : ℕ) (s : List ℕ) (f g : ℕ → List ℕ → LineAnswer) → ((v : ℕ) → next (endedBy end v (newline ∷ t)) f ≡ next (endedBy end v (newline ∷ u)) g)
-      → ((v : ℕ) (r : List ℕ) → f v (r ++ newline ∷ t) ≡ g v (r ++ newline ∷ u)) → next (numberOf end (s ++ newline ∷ t)) f ≡ next (numberOf end (s ++ newline ∷ u)) g
+      → ((v : ℕ) (r : List ℕ) → f v (r ++ newline ∷ t) ≡ g v (r ++ newline ∷ u)) → next (readNumber end (s ++ newline ∷ t)) f ≡ next (readNumber end (s ++ newline ∷ u)) g
   unfolding begin
   step end s f g k h =
       rw (number-newline end s t, number-newline end s u)
@@ -50,7 +50,7 @@ module _ (t u : List ℕ) where
       by false false v [] = k v
       by false false v (x ∷ s) = pick v (s ++ newline ∷ t) (s ++ newline ∷ u) f g (h v s) (eqb x end)
 
-  -- PROMISE. What follows the first newline is not looked at.
+  -- what follows the first newline is not looked at
   pub after-newline : (s : List ℕ) → lineOf (s ++ newline ∷ t) ≡ lineOf (s ++ newline ∷ u)
   unfolding lineOf
   after-newline s =

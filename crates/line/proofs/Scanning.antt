@@ -1,4 +1,5 @@
--- A number, byte by byte. Assumes nothing.
+-- A number, byte by byte: what the definition reads from a byte on, with the count and the value of the digits before it, for each kind of byte that
+-- can come next. Assumes nothing.
 use Prim.Native.Nat.{ℕ, suc, _+_, _-_, _*_, _^_, _<_, _≤_}
 use mathlib.Core.Path.{_≡_, refl}
 use mathlib.Core.Bool.{Bool, true, false, cond, _&&_}
@@ -10,7 +11,13 @@ use lib.Dec.{ltb, leb}
 use lib.ListN.{length, getD, drop, drop-of-length-le}
 use lib.Seq.{drop-cons}
 use borrow.Author.Tests.{leb-true, lt-ltb, le-ltb, eq-eqb, ne-eqb}
-use Rattle.line.specs.Lines.{isDigit, digits, decimalFrom, Start, Number, NoNumber, endedBy, numberOf}
+use Rattle.line.specs.Lines.{isDigit, digits, decimalFrom, Start, Number, NoNumber, endedBy, readNumber}
+
+-- a case that can't occur: `cc` proves the premise from an equation between two different constructors
+pub impossible : {A : Type 0} → _≡_ {A = ℕ} 0 1 → A
+impossible e = let v : ⊥ = omega arith in absurd v
+
+-- ---- digits
 
 pub digits-more : (x : ℕ) (s : List ℕ) → isDigit x ≡ true → digits (x ∷ s) ≡ x ∷ digits s
 unfolding digits
@@ -20,6 +27,8 @@ pub digits-none : (x : ℕ) (s : List ℕ) → isDigit x ≡ false → digits (x
 unfolding digits
 digits-none x s e = simp e
 
+-- ---- the number from a byte on
+
 -- the number that t begins with, where c digits that write v came before
 pub numberFrom : ℕ → ℕ → ℕ → List ℕ → Start
 numberFrom end c v t =
@@ -27,8 +36,8 @@ numberFrom end c v t =
     (cond (ltb 10 (c + length (digits t))) NoNumber
     (endedBy end (decimalFrom v (digits t)) (drop (length (digits t)) t)))
 
-pub from-none : (end : ℕ) (t : List ℕ) → numberFrom end 0 0 t ≡ numberOf end t
-unfolding numberFrom numberOf
+pub from-none : (end : ℕ) (t : List ℕ) → numberFrom end 0 0 t ≡ readNumber end t
+unfolding numberFrom readNumber
 from-none end t = rw zero-add
 
 none : (a b : Bool) → cond a NoNumber (cond b NoNumber NoNumber) ≡ NoNumber
@@ -36,6 +45,7 @@ none true b = refl
 none false true = refl
 none false false = refl
 
+-- place i of s: past its end; at a digit, or one too many; at another byte, which ends a number, no number, or is not the one that ends it
 module _ (end c v : ℕ) (s : List ℕ) (i : ℕ) where
   pub over : length s ≤ i → numberFrom end c v (drop i s) ≡ NoNumber
   unfolding numberFrom digits
@@ -77,7 +87,9 @@ module _ (end c v : ℕ) (s : List ℕ) (i : ℕ) where
         let a : 1 ≤ c = omega arith in
         rw (cons, digits-none x t d) (simp (le-ltb (c + 0) 1 (omega arith), le-ltb 10 (c + 0) (omega arith), eq-eqb x end e))
 
--- what a digit is
+-- ---- values
+
+-- what a digit is, and what one more does to the value
 pub record IsDigit (x : ℕ) : Type 0 where
   pub low : 48 ≤ x
   pub high : x ≤ 57
@@ -87,11 +99,11 @@ is-digit x e = by (leb 48 x) (leb x 57) refl refl e
   where
     by : (a b : Bool) → leb 48 x ≡ a → leb x 57 ≡ b → (a && b) ≡ true → IsDigit x
     by true true p q e = record { low = leb-true 48 x p; high = leb-true x 57 q }
-    by true false p q e = let w : _≡_ {A = ℕ} 0 1 = cc in let v : ⊥ = omega arith in absurd v
-    by false b p q e = let w : _≡_ {A = ℕ} 0 1 = cc in let v : ⊥ = omega arith in absurd v
+    by true false p q e = impossible (cc)
+    by false b p q e = impossible (cc)
 
--- a number of fewer than ten digits
-pub digits-fit : (c v : ℕ) → c < 10 → v < 10 ^ c → v < 1_000_000_000
+-- fewer than ten digits write a number below 10^9
+pub digits-fit : (c v : ℕ) → c < 10 → v < 10 ^ c → v < 10 ^ 9
 digits-fit c v h k = lt-of-lt-of-le k (pow-le-pow-right {n = 10} (omega arith) (nine c h))
   where
     nine : (c : ℕ) → c < 10 → c ≤ 9

@@ -9,7 +9,7 @@ use Rattle.line.specs.Lines.{digits, decimal, space, newline}
 -- ds is 1 to 10 bytes, all of them digits, and writes v
 pub record Writes (ds : List ℕ) (v : ℕ) : Type 0 where
   pub every : digits ds ≡ ds
-  pub some : 1 ≤ length ds
+  pub least : 1 ≤ length ds
   pub few : length ds ≤ 10
   pub value : decimal ds ≡ v
 

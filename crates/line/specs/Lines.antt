@@ -36,8 +36,8 @@ endedBy end v [] = NoNumber
 endedBy end v (x ∷ s) = cond (eqb x end) (Number v s) NoNumber
 
 -- a number of 1 to 10 digits with the byte `end` after it
-unfoldable pub numberOf : ℕ → List ℕ → Start
-numberOf end s =
+unfoldable pub readNumber : ℕ → List ℕ → Start
+readNumber end s =
     cond (ltb (length (digits s)) 1) NoNumber
     (cond (ltb 10 (length (digits s))) NoNumber
     (endedBy end (decimal (digits s)) (drop (length (digits s)) s)))
@@ -47,6 +47,7 @@ abbrev pub next : Start → (ℕ → List ℕ → LineAnswer) → LineAnswer
 next (Number v s) f = f v s
 next NoNumber f = BadLine
 
+-- the bytes that end a number
 abbrev pub space : ℕ
 space = 32
 
@@ -56,9 +57,9 @@ newline = 10
 -- the line at the front of s: five numbers, a space after each of the first four and a newline after the last
 unfoldable pub lineOf : List ℕ → LineAnswer
 lineOf s =
-    next (numberOf space s) (λ year s₁.
-    next (numberOf space s₁) (λ month s₂.
-    next (numberOf space s₂) (λ day s₃.
-    next (numberOf space s₃) (λ count s₄.
-    next (numberOf newline s₄) (λ step s₅.
+    next (readNumber space s) (λ year s₁.
+    next (readNumber space s₁) (λ month s₂.
+    next (readNumber space s₂) (λ day s₃.
+    next (readNumber space s₃) (λ count s₄.
+    next (readNumber newline s₄) (λ step s₅.
     Parsed (record { year = year; month = month; day = day; count = count; step = step }))))))

@@ -1,7 +1,7 @@
 // The program's line: five decimal numbers of 1 to 10 digits, one space between and a newline after.
 ghost use mathlib.Core.Path.{_≡_};
 ghost use lib.ListN.{drop};
-ghost use Rattle.line.specs.Lines.{isDigit, numberOf, lineOf};
+ghost use Rattle.line.specs.Lines.{isDigit, readNumber, lineOf};
 ghost use Rattle.line.specs.Inner.{startOf};
 
 // What a line asks for: a run from 0 h of a date, its count of records and the seconds from each to the next.
@@ -13,6 +13,7 @@ pub struct Line {
     pub step: u64,
 }
 
+// The numbers of a line, or that the bytes are none.
 pub enum LineAnswer {
     Parsed(Line),
     BadLine,
@@ -24,12 +25,14 @@ enum Scan {
     Missing,
 }
 
+// A byte as a number of 64 bits.
 fn wide(x: u8) -> u64
     ensures { λ r. ⌜ r ≡ x ⌝ }
 {
     x as u64
 }
 
+// Whether a byte is a decimal digit.
 fn is_digit(x: u8) -> bool
     ensures { λ r. ⌜ r ≡ isDigit x ⌝ }
 {
@@ -38,7 +41,7 @@ fn is_digit(x: u8) -> bool
 
 // The number at place `from` of s, with the byte `end` after it.
 fn number(s: &[u8], from: usize, end: u8) -> Scan
-    ensures { λ r. ⌜ startOf r (now (s .entry)) ≡ numberOf end (drop from (now (s .entry))) ⌝ }
+    ensures { λ r. ⌜ startOf r (now (s .entry)) ≡ readNumber end (drop from (now (s .entry))) ⌝ }
 {
     let mut i = from;
     let mut count: u64 = 0;
@@ -65,7 +68,7 @@ fn number(s: &[u8], from: usize, end: u8) -> Scan
     Scan::Missing
 }
 
-// The numbers of the line at the front of s.
+// The five numbers of the line at the front of s, or a bad line.
 pub fn parse(s: &[u8]) -> LineAnswer
     ensures { λ r. ⌜ r ≡ lineOf (now (s .entry)) ⌝ }
 {

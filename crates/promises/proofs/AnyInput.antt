@@ -1,4 +1,5 @@
--- Demand 1 holds. Assumes nothing.
+-- Demand 1 holds. Each service's definition is the first of its own cases that applies, and its cases compute to those that are written out in
+-- specs/AnyInput.antt, in their order; an answer that is a refusal has zeros by definition. Assumes nothing.
 use mathlib.Core.Path.{_≡_, refl}
 use Prim.Native.Nat.{ℕ}
 use mathlib.Core.List.{List, _++_}
@@ -38,7 +39,7 @@ use Rattle.run.specs.Run.{runCases, runRefusal}
 use Rattle.run.proofs.Records.{refused-unchanged}
 use Rattle.promises.specs.AnyInput.{ZeroBeside, AnyInputIsAnswered}
 
--- ---- the refusals: a definition is the first case of its own list that applies, and that list computes to the one written out
+-- ---- the refusals
 
 date-to-day : (y m d : ℕ) → dateRefusalOf (dayOf y m d) ≡ firstRefusal (dateCases y m d)
 unfolding dayOf
@@ -135,7 +136,7 @@ read-zero (NoRecord n) = (λ _. refl, λ _. refl, λ _. refl, λ _. refl, λ _. 
 
 -- PROMISE. Demand 1: any input is answered.
 pub any-input-is-answered : AnyInputIsAnswered
-unfolding outside
+unfolding outside tide.allInRange
 any-input-is-answered = record {
   date-to-day = date-to-day;
   date-to-day-zero = day-zero;

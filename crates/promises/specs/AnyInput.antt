@@ -1,16 +1,17 @@
 -- Demand 1: any input is answered. Each service is refused by the first number of its list that applies, and by nothing else; beside a refusal
 -- every other number is 0, and no lent byte changes. That each exported call gives these numbers for every input is its contract
--- (crates/enfysgar/src). The lists are written out here a second time, apart from the definitions: first when each number is given, then the
--- numbers of each service in their order.
+-- (crates/enfysgar/src). The rules are written out here a second time, with their figures and apart from the definitions: first when each number
+-- is given, then for each service its numbers in their order.
 use Prim.Native.Nat.{ℕ, _-_, _*_, _/_, _%_}
 use mathlib.Core.Path.{_≡_}
-use mathlib.Core.Bool.{not, _||_}
+use mathlib.Core.Bool.{Bool, not, _&&_, _||_}
 use mathlib.Core.List.{List, [], _∷_}
 use lib.Dec.{ltb, leb, eqb}
-use lib.IntN.{ℤ, pos}
+use lib.IntN.{ℤ, pos, negℤ}
 use lib.ListN.{length}
-use lib.Signed.{ltZ}
+use lib.Signed.{ltZ, leZ}
 use Rattle.instants.specs.Refusals.{Case, case, firstRefusal}
+use Rattle.instants.specs.Instants.{laterDay}
 use Rattle.calendar.specs.Dates.{monthLength, dayOf, dateOf, dayNumberOf, dateRefusalOf, yearOf, monthOf, dayOfMonthOf, dayRefusalOf}
 use Rattle.calendar.specs.Times.{instantOf, instantDayOf, instantMicrosOf, instantRefusalOf}
 use Rattle.calendar.specs.declared.DayAnswer.{DayAnswer}
@@ -30,7 +31,6 @@ use Rattle.nutation.specs.declared.NutationAnswer.{NutationAnswer}
 use Rattle.bigendian.specs.Numbers.{numberAt, wordSum}
 use Rattle.record.specs.Records.{writeRefusal, written, readOf, recordDayOf, recordMicrosOf, recordUt1Of, recordLodOf, recordRateOf, readRefusalOf}
 use Rattle.record.specs.declared.ReadAnswer.{ReadAnswer}
-use Rattle.instants.specs.Instants.{laterDay}
 use Rattle.run.specs.Run.{runRefusal, runWritten}
 
 -- ---- when each number is given
@@ -72,15 +72,18 @@ refusal9 m = case 9 (leb 86_400_000_000 m)
 abbrev pub refusal10 : ℤ → ℕ → Case
 refusal10 d t = case 10 (not (eqb (t / 137_438_953_472) (mark d)))
 
--- multipliers
+-- six multipliers, of which one is outside -12 to 12
+abbrev pub inRange : ℤ → Bool
+inRange k = leZ (negℤ (pos 12)) k && leZ k (pos 12)
+
 abbrev pub refusal11 : Doodson → Case
-refusal11 k = case 11 (not (tide.allInRange k))
+refusal11 k = case 11 (not (((((inRange (k .k1) && inRange (k .k2)) && inRange (k .k3)) && inRange (k .k4)) && inRange (k .k5)) && inRange (k .k6)))
 
 -- a buffer of n bytes where `needed` are needed
 abbrev pub refusal12 : (n needed : ℕ) → Case
 refusal12 n needed = case 12 (ltb n needed)
 
--- a record's length field, version, byte 3 and words
+-- a record's length field, its version, byte 3, and the sum of its fifteen words
 abbrev pub refusal13 : List ℕ → Case
 refusal13 s = case 13 (not (eqb (numberAt s 0 2) 30))
 
@@ -93,6 +96,13 @@ refusal15 s = case 15 (not (eqb (numberAt s 3 1) 0))
 abbrev pub refusal16 : List ℕ → Case
 refusal16 s = case 16 (not (eqb (wordSum s 15 % 65536) 0))
 
+-- the day word and the time word of a record
+abbrev pub dayWord : List ℕ → ℤ
+dayWord s = pos (numberAt s 4 4)
+
+abbrev pub timeWord : List ℕ → ℕ
+timeWord s = numberAt s 8 8
+
 -- a run's count and step
 abbrev pub refusal17 : ℕ → Case
 refusal17 count = case 17 (ltb count 1 || ltb 96 count)
@@ -100,66 +110,51 @@ refusal17 count = case 17 (ltb count 1 || ltb 96 count)
 abbrev pub refusal18 : ℕ → Case
 refusal18 step = case 18 (ltb step 1 || ltb 86_400_000_000 step)
 
--- ---- the demand
+-- ---- the demand: each service by its list, zeros beside a refusal, bytes that stay
 
 -- beside a refusal of the answer a, its number `value` is `zero`
 abbrev pub ZeroBeside : {A B : Type 0} → (A → ℕ) → (A → B) → B → A → Type 0
 ZeroBeside refusal value zero a = (refusal a ≡ 0 → ⊥) → value a ≡ zero
 
 pub record AnyInputIsAnswered : Type 0 where
-  -- (a)
+  -- (a) dates and day numbers
   pub date-to-day : (y m d : ℕ) → dateRefusalOf (dayOf y m d) ≡ firstRefusal (refusal1 y ∷ refusal2 m ∷ refusal3 y m d ∷ [])
   pub date-to-day-zero : (a : DayAnswer) → ZeroBeside dateRefusalOf dayNumberOf (pos 0) a
   pub day-to-date : (z : ℤ) → dayRefusalOf (dateOf z) ≡ firstRefusal (refusal8 z ∷ [])
   pub day-to-date-zero : (a : DateAnswer) → ZeroBeside dayRefusalOf yearOf 0 a × ZeroBeside dayRefusalOf monthOf 0 a × ZeroBeside dayRefusalOf dayOfMonthOf 0 a
-  -- (b)
+  -- (b) date and time
   pub date-and-time : (y m d h n s u : ℕ) → instantRefusalOf (instantOf y m d h n s u)
       ≡ firstRefusal (refusal1 y ∷ refusal2 m ∷ refusal3 y m d ∷ refusal4 h ∷ refusal5 n ∷ refusal6 s ∷ refusal7 u ∷ [])
   pub date-and-time-zero : (a : InstantAnswer) → ZeroBeside instantRefusalOf instantDayOf (pos 0) a × ZeroBeside instantRefusalOf instantMicrosOf 0 a
-  -- (c)
+  -- (c) clock words
   pub split : (d : ℤ) (m : ℕ) → splitRefusalOf (splitOf d m) ≡ firstRefusal (refusal8 d ∷ refusal9 m ∷ [])
   pub split-zero : (a : SplitAnswer) → ZeroBeside splitRefusalOf dayWordOf (pos 0) a × ZeroBeside splitRefusalOf timeWordOf 0 a
   pub join : (d : ℤ) (t : ℕ) → joinRefusalOf (joinOf d t) ≡ firstRefusal (refusal8 d ∷ refusal9 (t % 137_438_953_472) ∷ refusal10 d t ∷ [])
   pub join-zero : (a : JoinAnswer) → ZeroBeside joinRefusalOf joinedDayOf (pos 0) a × ZeroBeside joinRefusalOf joinedMicrosOf 0 a
-  -- (d)
+  -- (d) frequency and phase
   pub phase : (d : ℤ) (m : ℕ) (k : Doodson) → tide.tideRefusalOf (tide.tideOf d m k) ≡ firstRefusal (refusal8 d ∷ refusal9 m ∷ refusal11 k ∷ [])
   pub phase-zero : (a : tideAnswer.TideAnswer) → ZeroBeside tide.tideRefusalOf tide.frequencyOf zero64 a × ZeroBeside tide.tideRefusalOf tide.phaseOf zero64 a
-  -- (e)
+  -- (e) corrections
   pub corrections : (d : ℤ) (m : ℕ) → zonal.zonalRefusalOf (zonal.zonalOf d m) ≡ firstRefusal (refusal8 d ∷ refusal9 m ∷ [])
   pub corrections-zero : (a : ZonalAnswer)
       → ZeroBeside zonal.zonalRefusalOf zonal.ut1Of (pos 0) a × ZeroBeside zonal.zonalRefusalOf zonal.lodOf (pos 0) a × ZeroBeside zonal.zonalRefusalOf zonal.rateOf (pos 0) a
-  -- (f)
+  -- (f) offsets
   pub offsets : (d : ℤ) (m : ℕ) → nutation.nutationRefusalOf (nutation.nutationOf d m) ≡ firstRefusal (refusal8 d ∷ refusal9 m ∷ [])
   pub offsets-zero : (a : NutationAnswer)
       → ZeroBeside nutation.nutationRefusalOf nutation.xOf (pos 0) a × ZeroBeside nutation.nutationRefusalOf nutation.yOf (pos 0) a × ZeroBeside nutation.nutationRefusalOf nutation.uncertaintyOf 0 a
-  -- (g), one record
+  -- (g) one record
   pub record-write : (d : ℤ) (m n : ℕ) → writeRefusal d m n ≡ firstRefusal (refusal8 d ∷ refusal9 m ∷ refusal12 n 30 ∷ [])
   pub record-write-keeps : (d : ℤ) (m : ℕ) (ut1 lod rate : ℤ) (old : List ℕ) → (writeRefusal d m (length old) ≡ 0 → ⊥) → written d m ut1 lod rate old ≡ old
   pub record-read : (s : List ℕ) → readRefusalOf (readOf s)
-      ≡ firstRefusal
-      (refusal12 (length s) 30
-      ∷ refusal14 s
-      ∷ refusal13 s
-      ∷ refusal15 s
-      ∷ refusal16 s
-      ∷ refusal8 (pos (numberAt s 4 4))
-      ∷ refusal9 (numberAt s 8 8 % 137_438_953_472)
-      ∷ refusal10 (pos (numberAt s 4 4)) (numberAt s 8 8)
-      ∷ [])
+      ≡ firstRefusal (refusal12 (length s) 30 ∷ refusal14 s ∷ refusal13 s ∷ refusal15 s ∷ refusal16 s
+      ∷ refusal8 (dayWord s) ∷ refusal9 (timeWord s % 137_438_953_472) ∷ refusal10 (dayWord s) (timeWord s) ∷ [])
   pub record-read-zero : (a : ReadAnswer)
       → ZeroBeside readRefusalOf recordDayOf (pos 0) a
       × ZeroBeside readRefusalOf recordMicrosOf 0 a
       × ZeroBeside readRefusalOf recordUt1Of (pos 0) a
       × ZeroBeside readRefusalOf recordLodOf (pos 0) a
       × ZeroBeside readRefusalOf recordRateOf (pos 0) a
-  -- (g), a run
+  -- (g) a run
   pub run-write : (d : ℤ) (m count step n : ℕ) → runRefusal d m count step n
-      ≡ firstRefusal
-      (refusal17 count
-      ∷ refusal18 step
-      ∷ refusal8 d
-      ∷ refusal9 m
-      ∷ refusal8-last (laterDay d m ((count - 1) * step))
-      ∷ refusal12 n (30 * count)
-      ∷ [])
+      ≡ firstRefusal (refusal17 count ∷ refusal18 step ∷ refusal8 d ∷ refusal9 m ∷ refusal8-last (laterDay d m ((count - 1) * step)) ∷ refusal12 n (30 * count) ∷ [])
   pub run-write-keeps : (d : ℤ) (m count step : ℕ) (old : List ℕ) → (runRefusal d m count step (length old) ≡ 0 → ⊥) → runWritten d m count step old ≡ old

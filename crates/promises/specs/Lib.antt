@@ -1,4 +1,4 @@
--- The three demands, each a record of statements about the definitions. The files of proofs/ have a proof of each.
+-- The three demands, each a record of statements about the definitions. Read AnyInput, Exactness, Distance. The files of proofs/ have a proof of each.
 pub mod AnyInput
 pub mod Exactness
 pub mod Distance

@@ -11,43 +11,12 @@ use Rattle.nutation.specs.Exact.{rowDate, started, place, span, value, uValue, 
 use Rattle.nutation.specs.Ours.{offsetsAt, nutationOf}
 use Rattle.reference.specs.Rows.{Says, EveryRow, rows}
 
+-- a row that holds, before the others
+infixr 20 _▹_
+_▹_ : {A B : Type 0} → A → B → A × B
+a ▹ b = (a, b)
+
 -- PROMISE. Every row of the list of reference values holds.
 pub every-row : EveryRow rows
 unfolding EveryRow Says rows outside dayIndex acceptance leapYear monthLengths monthLength sum yearLength daysOfYears daysBefore dateIndex dayAtIndex dayOf splitOf joinOf wordSum recordBytes formRefusal readOf builtIn rowDate started place span value uValue uParts uncertaintyAt offsetsAt nutationOf
-every-row = (
-  refl,
-  (
-    refl,
-    (
-      refl,
-      (
-        refl,
-        (
-          refl,
-          (
-            refl,
-            (
-              refl,
-              (
-                refl,
-                (
-                  refl,
-                  (
-                    refl,
-                    (
-                      refl,
-                      (
-                        (refl, refl),
-                        (refl, (refl, (refl, (refl, tt)))),
-                      ),
-                    ),
-                  ),
-                ),
-              ),
-            ),
-          ),
-        ),
-      ),
-    ),
-  ),
-)
+every-row = refl ▹ refl ▹ refl ▹ refl ▹ refl ▹ refl ▹ refl ▹ refl ▹ refl ▹ refl ▹ refl ▹ (refl, refl) ▹ refl ▹ refl ▹ refl ▹ refl ▹ tt

@@ -1,1 +1,2 @@
+-- Hold: every row of the list holds, each by computing it.
 pub mod Hold

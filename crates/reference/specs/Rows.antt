@@ -33,10 +33,12 @@ Says (record-is d m ut1 lod rate bytes) =
     × (readOf bytes ≡ IsRecord (record { day = pos d; micros = m; ut1 = ut1; lod = lod; rate = rate }))
 Says (uncertainty-is d m u) = uncertaintyOf (nutationOf (pos d) m) ≡ u
 
+-- every row of a list
 unfoldable pub EveryRow : List Row → Type 0
 EveryRow [] = Unit
 EveryRow (r ∷ rs) = Says r × EveryRow rs
 
+-- the list
 unfoldable pub rows : List Row
 rows =
     date-is 1900 1 1 15020

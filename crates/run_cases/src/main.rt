@@ -3,6 +3,7 @@ use calendar::InstantAnswer;
 use libc::STDOUT_FILENO;
 use run_line::Outcome;
 
+// Ends a line.
 fn end() {
     io::write_all(STDOUT_FILENO, b"\n");
 }
@@ -21,6 +22,7 @@ fn run_refusal(count: u64) -> u32 {
     run::write(54465, 0, count, 900000000, &mut buffer)
 }
 
+// The refusal of a time in the last minute of 2007-12-31.
 fn time_refusal(second: u64, microsecond: u64) -> u32 {
     match calendar::instant_of(2007, 12, 31, 23, 59, second, microsecond) {
         InstantAnswer::AtInstant(_) => 0,
@@ -49,6 +51,7 @@ fn answer(input: &[u8]) {
     end();
 }
 
+// Lines that are answered by a run.
 fn runs() {
     // a day of quarter hours
     answer(b"2007 12 31 96 900\n");
@@ -60,6 +63,7 @@ fn runs() {
     answer(b"2000 2 29 2 1\nx");
 }
 
+// Lines whose date is refused.
 fn dates() {
     // year 1899
     answer(b"1899 12 31 1 1\n");
@@ -77,6 +81,7 @@ fn dates() {
     answer(b"2100 2 29 0 1\n");
 }
 
+// Lines whose count, step or last instant is refused.
 fn counts_and_steps() {
     // count 0, step 0
     answer(b"2000 2 29 0 0\n");
@@ -92,6 +97,7 @@ fn counts_and_steps() {
     answer(b"2100 12 31 2 86400\n");
 }
 
+// Lines with too few, too many or too long numbers, or no end.
 fn bad_numbers() {
     // an empty line
     answer(b"\n");
@@ -105,6 +111,7 @@ fn bad_numbers() {
     answer(b"2000 2 29 1 00000000001\n");
 }
 
+// Lines with a byte that belongs to none.
 fn bad_bytes() {
     // two spaces
     answer(b"2000  2 29 1 1\n");
@@ -124,6 +131,7 @@ fn bad_bytes() {
     answer(b"2000 2 29\n1 1\n");
 }
 
+// Everything above, a line for each.
 fn main() {
     show(b"count 96", run_refusal(96));
     show(b"count 97", run_refusal(97));

@@ -27,6 +27,7 @@ fn read_line(s: &mut [u8]) -> usize
     n
 }
 
+// Writes a refusal.
 fn refuse(number: u32) {
     io::write_all(STDOUT_FILENO, b"refused ");
     io::print_decimal(STDOUT_FILENO, number as u64);

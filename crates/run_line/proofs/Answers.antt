@@ -1,4 +1,5 @@
--- The program's answer. Assumes nothing.
+-- The program's answer. The code asks for the line, then for its date's day number, then for the run; the definition has the refusals of date and
+-- run as one list. So a refused date ends the list at its front, and past an accepted date the run's refusals are left. Assumes nothing.
 use Prim.Native.Nat.{ℕ, _*_, _≤_}
 use mathlib.Core.Path.{_≡_, refl, sym}
 use native.Mathlib.Omega.{arith}

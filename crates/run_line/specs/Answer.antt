@@ -32,6 +32,7 @@ dayRunCases d count step n = runCases d 0 count (step * second) n
 abbrev pub lineCases : Line → ℕ → List Case
 lineCases l n = dateCases (l .year) (l .month) (l .day) ++ dayRunCases (lineDay l) (l .count) (l .step) n
 
+-- the answer to a line, with a buffer of n bytes
 abbrev pub forLine : LineAnswer → ℕ → Outcome
 forLine BadLine n = Bad
 forLine (Parsed l) n = refusedOr NoRun (lineCases l n) (Run (recordLength * l .count))
@@ -40,11 +41,12 @@ forLine (Parsed l) n = refusedOr NoRun (lineCases l n) (Run (recordLength * l .c
 unfoldable pub outcomeOf : List ℕ → ℕ → Outcome
 outcomeOf s n = forLine (lineOf s) n
 
--- the buffer's bytes afterwards
+-- the buffer's bytes after a line
 abbrev pub filledForLine : LineAnswer → List ℕ → List ℕ
 filledForLine BadLine old = old
 filledForLine (Parsed l) old =
     refusedOr (λ _. old) (lineCases l (length old)) (atFront (runBytes (lineDay l) 0 (l .step * second) (l .count)) old)
 
+-- the buffer's bytes afterwards
 unfoldable pub filledOf : List ℕ → List ℕ → List ℕ
 filledOf s old = filledForLine (lineOf s) old

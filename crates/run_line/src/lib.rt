@@ -14,18 +14,18 @@ ghost use Rattle.run_line.specs.Answer.{second, dayRunCases, outcomeOf, 
 // The microseconds of a second.
 const SECOND: u64 = 1000000;
 
+// What the program answers: a run, so many bytes at the front of the buffer; a refusal number; or a bad line.
 pub enum Outcome {
-    // A run, so many bytes at the front of the buffer.
     Run(usize),
     NoRun(u32),
     Bad,
 }
 
-// The run of a day from 0 h on, with a step in seconds.
+// The run of a day from 0 h on, with a step in seconds, or its refusal.
 fn day_run(day: i64, count: u64, step: u64, buffer: &mut [u8]) -> Outcome
     requires { ⌜ step < 10 ^ 10 ⌝ }
-    ensures { λ r. ⌜ r ≡ refusedOr outcome.NoRun (dayRunCases day count step (length (now (buffer .entry)))) (outcome.Run (recordLength * count)) ⌝ }
-    ensures { λ _. ⌜ now (buffer .exit) ≡ runWritten day 0 count (step * second) (now (buffer .entry)) ⌝ }
+    ensures outcome { λ r. ⌜ r ≡ refusedOr outcome.NoRun (dayRunCases day count step (length (now (buffer .entry)))) (outcome.Run (recordLength * count)) ⌝ }
+    ensures buffer { λ _. ⌜ now (buffer .exit) ≡ runWritten day 0 count (step * second) (now (buffer .entry)) ⌝ }
 {
     let n = run::write(day, 0, count, step * SECOND, buffer);
     if n != 0 {
@@ -36,8 +36,8 @@ fn day_run(day: i64, count: u64, step: u64, buffer: &mut [u8]) -> Outcome
 
 // The answer to the bytes s, of which the first line counts.
 pub fn answer(s: &[u8], buffer: &mut [u8]) -> Outcome
-    ensures { λ r. ⌜ r ≡ outcomeOf (now (s .entry)) (length (now (buffer .entry))) ⌝ }
-    ensures { λ _. ⌜ now (buffer .exit) ≡ filledOf (now (s .entry)) (now (buffer .entry)) ⌝ }
+    ensures outcome { λ r. ⌜ r ≡ outcomeOf (now (s .entry)) (length (now (buffer .entry))) ⌝ }
+    ensures buffer { λ _. ⌜ now (buffer .exit) ≡ filledOf (now (s .entry)) (now (buffer .entry)) ⌝ }
 {
     match line::parse(s) {
         LineAnswer::BadLine => Outcome::Bad,

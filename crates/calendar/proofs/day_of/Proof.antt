@@ -1,73 +1,91 @@
--- `calendar::day_of` meets its contract. Assumes nothing.
-use Rattle.calendar.specs.declared.DayAnswer.the-variants.{Day}
-use mir.Facts.{toZ-ofZ}
-use Rattle.calendar.specs.Dates.{date, dayOf, dateIndex}
-use Prim.Native.Nat.{_+_, _-_}
-use mathlib.Core.Path.{ap, _∙_, _≡_}
-use Rattle.instants.specs.Instants.{dayAtIndex}
+-- `calendar::day_of` meets its contract. The three tests of the code are the cases of the definition in their order; a date that passes them has
+-- the index that years, months and days add up to. Assumes nothing.
+use Prim.Native.Nat.{_+_, _-_, _<_, _≤_}
+use mathlib.Core.Path.{_≡_, _∙_, ap}
 use native.Mathlib.Omega.{arith}
-use borrow.Author.Tests.{lt-ltb, le-ltb}
+use borrow.Author.Tests.{ltb-false}
 use borrow.Author.Needs.{needs}
+use mir.Facts.{toZ-ofZ}
+use Rattle.instants.specs.Instants.{dayAtIndex}
+use Rattle.instants.proofs.Accepted.{both-false}
+use Rattle.calendar.specs.declared.DayAnswer.the-variants.{Day}
+use Rattle.calendar.specs.Limits.{firstYear, lastYear}
+use Rattle.calendar.specs.Dates.{date, dayOf, dateIndex}
 use Rattle.calendar.proofs.day_of.Statement.{statement}
 use Rattle.calendar.proofs.day_of.Tie as tie
 
 returns : tie.Need-returns
 unfolding dayOf
-returns c = simp (lt-ltb _ _ (c .if1 .taken))
+returns c = simp (c .if1 .taken)
 
 returns-2 : tie.Need-returns-2
 unfolding dayOf
-returns-2 c = simp (le-ltb _ _ (c .before .if1 .left), lt-ltb _ _ (c .if2 .taken))
+returns-2 c = simp (c .before .if1 .left, c .if2 .taken)
+
+-- ---- what the tests say where they are passed
+
+year-in : (c : tie.Else1) → (firstYear ≤ c .before .args .year) × (c .before .args .year ≤ lastYear)
+year-in c = let p = both-false _ _ (c .if1 .left) in (ltb-false _ _ (p .0), ltb-false _ _ (p .1))
+
+abbrev entry : tie.Else2 → tie.Start
+entry c = c .before .before
+
+month-in : (c : tie.Else2) → (1 ≤ entry c .args .month) × (entry c .args .month ≤ 12)
+month-in c = let p = both-false _ _ (c .if2 .left) in (ltb-false _ _ (p .0), ltb-false _ _ (p .1))
+
+-- past the month's test, from past the day's
+abbrev month-passed : tie.Else3 → tie.Else2
+month-passed c = c .before .before
+
+day-in : (c : tie.Else3) → (1 ≤ entry (month-passed c) .args .day) × (entry (month-passed c) .args .day < 32)
+day-in c =
+    let p = both-false _ _ (c .if3 .left) in
+    let l : entry (month-passed c) .args .day ≤ c .before .month-length .result = ltb-false _ _ (p .1) in
+    (ltb-false _ _ (p .0), omega (arith, l, c .before .month-length .ensures .1))
+
+-- past the day's test, from where all numbers are there
+abbrev passed : tie.After-before2 → tie.Else3
+passed c = c .before .before
+
+month-length-requires : tie.Need-month-length-requires
+month-length-requires c κs = month-in c
 
 returns-3 : tie.Need-returns-3
 unfolding dayOf
-returns-3 c = simp (le-ltb _ _ (c .before .before .if1 .left), le-ltb _ _ (c .before .if2 .left), lt-ltb _ _ (c .if3 .taken))
-
-returns-4 : tie.Need-returns-4
-unfolding dayOf
-returns-4 c = simp (le-ltb _ _ (c .before .before .before .if1 .left), le-ltb _ _ (c .before .before .if2 .left), le-ltb _ _ (c .before .if3 .left), lt-ltb _ _ (c .if4 .taken))
-
-returns-5 : tie.Need-returns-5
-unfolding dayOf
-returns-5 c = let b = c .before .before in simp (le-ltb _ _ (b .before .before .if1 .left), le-ltb _ _ (b .before .if2 .left), le-ltb _ _ (b .if3 .left), le-ltb _ _ (c .before .if4 .left), lt-ltb _ _ (c .if5 .taken))
-
-month-length-requires : tie.Need-month-length-requires
-month-length-requires c κs = search needs
-
-returns-6 : tie.Need-returns-6
-unfolding dayOf
-returns-6 c =
-    let c5 = c .before .before in
-    let e = c5 .before .before .before .before in
-    simp (le-ltb _ _ (e .if1 .left), le-ltb _ _ (c5 .before .before .before .if2 .left), le-ltb _ _ (c5 .before .before .if3 .left), le-ltb _ _ (c5 .before .if4 .left), le-ltb _ _ (c5 .if5 .left), ← c .before .month-length .ensures .0, lt-ltb _ _ (c .if6 .taken))
+returns-3 c =
+    let m = c .before .before in
+    simp (m .before .if1 .left, m .if2 .left, ← c .before .month-length .ensures .0, c .if3 .taken)
 
 sub-years : tie.Need-sub-years
-sub-years c = search needs
+sub-years c = omega (arith, year-in (month-passed c .before) .0)
 
 years-requires : tie.Need-years-requires
-years-requires c κs = search needs
+years-requires c κs = omega (arith, year-in (month-passed c .before) .1)
 
 before-requires : tie.Need-before-requires
-before-requires c κs = search needs
+before-requires c κs = month-in (month-passed (c .before))
 
 add-day-at-index : tie.Need-add-day-at-index
-add-day-at-index c = omega arith
+add-day-at-index c = search needs
+
+sub-day-at-index : tie.Need-sub-day-at-index
+sub-day-at-index c = day-in (passed c) .0
 
 add-day-at-index-2 : tie.Need-add-day-at-index-2
-add-day-at-index-2 c = omega arith
+add-day-at-index-2 c = omega (arith, day-in (passed c) .1)
 
 day-at-index-requires : tie.Need-day-at-index-requires
-day-at-index-requires c κs = omega arith
+day-at-index-requires c κs = omega (arith, day-in (passed c) .1)
 
-returns-7 : tie.Need-returns-7
+returns-4 : tie.Need-returns-4
 unfolding dayOf dateIndex
-returns-7 c =
-    let c6 = c .before .before .before in
-    let c5 = c6 .before .before in
-    let e = c5 .before .before .before .before in
-    let a = e .before .args in
-    let n : c .before .before .years .result + c .before .before2 .result + (a .day - 1) ≡ dateIndex (date (a .year) (a .month) (a .day)) = simp (c .before .before .years .ensures .0, c .before .before2 .ensures .0) in
-    simp (le-ltb _ _ (e .if1 .left), le-ltb _ _ (c5 .before .before .before .if2 .left), le-ltb _ _ (c5 .before .before .if3 .left), le-ltb _ _ (c5 .before .if4 .left), le-ltb _ _ (c5 .if5 .left), ← c6 .before .month-length .ensures .0, le-ltb _ _ (c6 .if6 .left))
+returns-4 c =
+    let d = passed (c .before) in
+    let m = month-passed d in
+    let a = entry m .args in
+    let b = c .before in
+    let n : b .before .years .result + b .before2 .result + (a .day - 1) ≡ dateIndex (date (a .year) (a .month) (a .day)) = simp (b .before .years .ensures .0, b .before2 .ensures .0) in
+    simp (m .before .if1 .left, m .if2 .left, ← d .before .month-length .ensures .0, d .if3 .left)
     (ap Day (toZ-ofZ (search needs) ∙ (c .day-at-index .ensures ∙ ap dayAtIndex n)))
 
 pub day-of-spec : {M : Type 1} → statement M
@@ -76,15 +94,13 @@ day-of-spec =
     (tie.spec
     returns
     returns-2
-    returns-3
-    returns-4
-    returns-5
     month-length-requires
-    returns-6
+    returns-3
     sub-years
     years-requires
     before-requires
     add-day-at-index
+    sub-day-at-index
     add-day-at-index-2
     day-at-index-requires
-    returns-7)
+    returns-4)

@@ -1,4 +1,4 @@
--- `calendar::year_day` meets its contract. Assumes nothing.
+-- `calendar::year_day` meets its contract: its quotients and remainders are those of crates/calendar/proofs/Groups.antt. Assumes nothing.
 use Rattle.calendar.proofs.Groups.{year-fits, placed}
 use native.Mathlib.Omega.{arith}
 use Prim.Native.Nat.{_+_, _-_, _*_, _/_, _%_, _<_}

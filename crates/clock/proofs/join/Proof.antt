@@ -1,5 +1,5 @@
--- `clock::join` meets its contract. Assumes nothing.
-use Prim.Native.Nat.{_+_, _%_}
+-- `clock::join` meets its contract: `accept` decides first, and then the mark, which comes from the index of the day. Assumes nothing.
+use Prim.Native.Nat.{ℕ, _+_, _%_}
 use native.Mathlib.Omega.{arith}
 use mathlib.Core.Path.{_≡_, _∙_, ap, sym}
 use lib.IntN.{ℤ}
@@ -18,14 +18,28 @@ use Rattle.clock.proofs.join.Tie as tie
 says : (c : tie.After-accept) → c .accept .result ≡ acceptance (c .before .args .day) (c .before .args .time % markUnit)
 says c = c .accept .ensures ∙ ap (λ (d : ℤ). acceptance d (c .before .args .time % markUnit)) (toZ-ofZ (c .before .fits .day))
 
-found : (c : tie.After-known-told2) → acceptance (c .before .before .before .before .args .day) (c .before .before .before .before .args .time % markUnit) ≡ Accepted (c .before .i .given .0 .0)
-found c = sym (says (c .before .before .before)) ∙ c .before .i .given .1
+-- where the instant is accepted, with the index of its day
+module _ (c : tie.After-known-told2) where
+  abbrev asked : tie.After-accept
+  asked = c .before .before .before
 
-known : (c : tie.After-known-told2) → AcceptedAt (c .before .before .before .before .args .day) (c .before .before .before .before .args .time % markUnit) (c .before .i .given .0 .0)
-known c = accepted-at _ _ _ (found c)
+  abbrev day : ℤ
+  day = asked .before .args .day
 
-marked : (c : tie.After-known-told2) → mark (c .before .before .before .before .args .day) ≡ (c .before .i .given .0 .0 + 7) % 8
-marked c = mark-index (c .before .before .before .before .args .day) (c .before .i .given .0 .0) (known c .is)
+  abbrev micros : ℕ
+  micros = asked .before .args .time % markUnit
+
+  abbrev index : ℕ
+  index = c .before .i .given .0 .0
+
+  found : acceptance day micros ≡ Accepted index
+  found = sym (says asked) ∙ c .before .i .given .1
+
+  known : AcceptedAt day micros index
+  known = accepted-at _ _ _ found
+
+  marked : mark day ≡ (index + 7) % 8
+  marked = mark-index day index (known .is)
 
 accept-requires : tie.Need-accept-requires
 accept-requires c κs = search needs
@@ -49,7 +63,7 @@ returns-2 c = refused-too NoJoin _ _ _ (sym (says (c .before .before .before)) �
 
 returns-3 : tie.Need-returns-3
 unfolding joinOf
-returns-3 c = let k = known (c .before) in simp (k .inside, k .within, marked (c .before), eq-eqb _ _ (c .if1 .left), toZ-ofZ (c .before .before .before .before .before .fits .day))
+returns-3 c = let k = known (c .before) in simp (k .inside, k .within, marked (c .before), eq-eqb _ _ (c .if1 .left), toZ-ofZ (asked (c .before) .before .fits .day))
 
 pub join-spec : {M : Type 1} → statement M
 join-spec =

@@ -1,5 +1,5 @@
--- `clock::split` meets its contract. Assumes nothing.
-use Prim.Native.Nat.{_+_, _%_}
+-- `clock::split` meets its contract: `accept` decides, and the mark comes from the index of the day. Assumes nothing.
+use Prim.Native.Nat.{ℕ, _+_, _%_}
 use native.Mathlib.Omega.{arith}
 use mathlib.Core.Path.{_≡_, _∙_, ap, sym}
 use lib.IntN.{ℤ}
@@ -17,14 +17,28 @@ use Rattle.clock.proofs.split.Tie as tie
 says : (c : tie.After-accept) → c .accept .result ≡ acceptance (c .before .args .day) (c .before .args .micros)
 says c = c .accept .ensures ∙ ap (λ (d : ℤ). acceptance d (c .before .args .micros)) (toZ-ofZ (c .before .fits .day))
 
-found : (c : tie.After-known-told2) → acceptance (c .before .before .before .before .args .day) (c .before .before .before .before .args .micros) ≡ Accepted (c .before .i .given .0 .0)
-found c = sym (says (c .before .before .before)) ∙ c .before .i .given .1
+-- where the instant is accepted, with the index of its day
+module _ (c : tie.After-known-told2) where
+  abbrev asked : tie.After-accept
+  asked = c .before .before .before
 
-known : (c : tie.After-known-told2) → AcceptedAt (c .before .before .before .before .args .day) (c .before .before .before .before .args .micros) (c .before .i .given .0 .0)
-known c = accepted-at _ _ _ (found c)
+  abbrev day : ℤ
+  day = asked .before .args .day
 
-marked : (c : tie.After-known-told2) → mark (c .before .before .before .before .args .day) ≡ (c .before .i .given .0 .0 + 7) % 8
-marked c = mark-index (c .before .before .before .before .args .day) (c .before .i .given .0 .0) (known c .is)
+  abbrev micros : ℕ
+  micros = asked .before .args .micros
+
+  abbrev index : ℕ
+  index = c .before .i .given .0 .0
+
+  found : acceptance day micros ≡ Accepted index
+  found = sym (says asked) ∙ c .before .i .given .1
+
+  known : AcceptedAt day micros index
+  known = accepted-at _ _ _ found
+
+  marked : mark day ≡ (index + 7) % 8
+  marked = mark-index day index (known .is)
 
 accept-requires : tie.Need-accept-requires
 accept-requires c κs = search needs
@@ -50,7 +64,7 @@ returns c = refused-too NoSplit _ _ _ (sym (says (c .before .before .before)) �
 
 returns-2 : tie.Need-returns-2
 unfolding splitOf
-returns-2 c = simp (toZ-ofZ (c .before .before .before .before .fits .day), ← marked c) (answered-too NoSplit _ _ _ (found c))
+returns-2 c = simp (toZ-ofZ (asked c .before .fits .day), ← marked c) (answered-too NoSplit _ _ _ (found c))
 
 pub split-spec : {M : Type 1} → statement M
 split-spec =

@@ -1,4 +1,5 @@
--- `instants::accept` meets its contract. Assumes nothing.
+-- `instants::accept` meets its contract: without an index the day is outside, with one it is not, and the microseconds are tested then.
+-- Assumes nothing.
 use Rattle.instants.proofs.Accepted.{HasIndex, index-outside, index-at}
 use Rattle.instants.specs.Instants.{acceptance}
 use Rattle.instants.specs.Inner.{indexAnswer}

@@ -1,47 +1,73 @@
--- `line::parse` meets its contract: each number that was found, and what is left after it. Assumes nothing.
+-- `line::parse` meets its contract. The definition reads a number and goes on with the bytes behind it; at each place of the code where a number was
+-- found, that step of the definition gave the same number, and where none was found, the same lack of one. Assumes nothing.
+use Prim.Native.Nat.{ℕ}
 use mathlib.Core.Path.{_≡_, ap, sym, _∙_}
+use mathlib.Core.List.{List}
 use lib.ListN.{drop}
 use denote.Ref.{now}
 use Rattle.line.specs.declared.Scan.{Scan}
-use Rattle.line.specs.Lines.{Number, numberOf, lineOf}
+use Rattle.line.specs.Lines.{Start, Number, readNumber, space, newline, lineOf}
 use Rattle.line.specs.Inner.{startOf}
 use borrow.Author.Needs.{needs}
 use Rattle.line.proofs.parse.Statement.{statement}
 use Rattle.line.proofs.parse.Tie as tie
 
+-- what was scanned, where the answer is known
+told : (s : List ℕ) {r q : Scan} {n : Start} → startOf r s ≡ n → r ≡ q → n ≡ startOf q s
+told s e p = sym e ∙ ap (λ (r : Scan). startOf r s) p
+
+-- ---- the places where a number was found, each from the next
+
+abbrev past-year : tie.After-known-told2 → tie.After-known-told
+past-year c = c .before .before .before .before
+
+abbrev past-month : tie.After-known-told3 → tie.After-known-told2
+past-month c = c .before .before .before .before
+
+abbrev past-day : tie.After-known-told4 → tie.After-known-told3
+past-day c = c .before .before .before .before
+
+abbrev past-count : tie.After-known-told5 → tie.After-known-told4
+past-count c = c .before .before .before .before
+
+-- ---- the bytes, and each number with the bytes behind it
+
+abbrev bytes : tie.After-known-told → List ℕ
+bytes c = now (c .before .before .before .before .before .args .s)
+
 year : (c : tie.After-known-told) →
-    let s = c .before .before .before .before .before .args .s in
     let q = c .before .year .given .0 in
-    numberOf 32 (now s) ≡ Number (q .0) (drop (q .1 .0) (now s))
-year c = sym (c .before .before .before .number .ensures) ∙ ap (λ (r : Scan). startOf r (now (c .before .before .before .before .before .args .s))) (c .before .year .given .1)
+    readNumber space (bytes c) ≡ Number (q .0) (drop (q .1 .0) (bytes c))
+year c = told (bytes c) (c .before .before .before .number .ensures) (c .before .year .given .1)
 
 month : (c : tie.After-known-told2) →
-    let s = c .before .before .before .before .before .before .before .before .before .args .s in
-    let p = c .before .before .before .before .before .year .given .0 in
+    let f = past-year c in
     let q = c .before .month .given .0 in
-    numberOf 32 (drop (p .1 .0) (now s)) ≡ Number (q .0) (drop (q .1 .0) (now s))
-month c = sym (c .before .before .before .number2 .ensures) ∙ ap (λ (r : Scan). startOf r (now (c .before .before .before .before .before .before .before .before .before .args .s))) (c .before .month .given .1)
+    readNumber space (drop (f .before .year .given .0 .1 .0) (bytes f)) ≡ Number (q .0) (drop (q .1 .0) (bytes f))
+month c = told (bytes (past-year c)) (c .before .before .before .number2 .ensures) (c .before .month .given .1)
 
 day : (c : tie.After-known-told3) →
-    let s = c .before .before .before .before .before .before .before .before .before .before .before .before .before .args .s in
-    let p = c .before .before .before .before .before .month .given .0 in
+    let f = past-month c in
+    let s = bytes (past-year f) in
     let q = c .before .day .given .0 in
-    numberOf 32 (drop (p .1 .0) (now s)) ≡ Number (q .0) (drop (q .1 .0) (now s))
-day c = sym (c .before .before .before .number3 .ensures) ∙ ap (λ (r : Scan). startOf r (now (c .before .before .before .before .before .before .before .before .before .before .before .before .before .args .s))) (c .before .day .given .1)
+    readNumber space (drop (f .before .month .given .0 .1 .0) s) ≡ Number (q .0) (drop (q .1 .0) s)
+day c = told _ (c .before .before .before .number3 .ensures) (c .before .day .given .1)
 
 count : (c : tie.After-known-told4) →
-    let s = c .before .before .before .before .before .before .before .before .before .before .before .before .before .before .before .before .before .args .s in
-    let p = c .before .before .before .before .before .day .given .0 in
+    let f = past-day c in
+    let s = bytes (past-year (past-month f)) in
     let q = c .before .count .given .0 in
-    numberOf 32 (drop (p .1 .0) (now s)) ≡ Number (q .0) (drop (q .1 .0) (now s))
-count c = sym (c .before .before .before .number4 .ensures) ∙ ap (λ (r : Scan). startOf r (now (c .before .before .before .before .before .before .before .before .before .before .before .before .before .before .before .before .before .args .s))) (c .before .count .given .1)
+    readNumber space (drop (f .before .day .given .0 .1 .0) s) ≡ Number (q .0) (drop (q .1 .0) s)
+count c = told _ (c .before .before .before .number4 .ensures) (c .before .count .given .1)
 
 step : (c : tie.After-known-told5) →
-    let s = c .before .before .before .before .before .before .before .before .before .before .before .before .before .before .before .before .before .before .before .before .before .args .s in
-    let p = c .before .before .before .before .before .count .given .0 in
+    let f = past-count c in
+    let s = bytes (past-year (past-month (past-day f))) in
     let q = c .before .step .given .0 in
-    numberOf 10 (drop (p .1 .0) (now s)) ≡ Number (q .0) (drop (q .1 .0) (now s))
-step c = sym (c .before .before .before .number5 .ensures) ∙ ap (λ (r : Scan). startOf r (now (c .before .before .before .before .before .before .before .before .before .before .before .before .before .before .before .before .before .before .before .before .before .args .s))) (c .before .step .given .1)
+    readNumber newline (drop (f .before .count .given .0 .1 .0) s) ≡ Number (q .0) (drop (q .1 .0) s)
+step c = told _ (c .before .before .before .number5 .ensures) (c .before .step .given .1)
+
+-- ---- the needs
 
 number-requires : tie.Need-number-requires
 number-requires c κs = search needs
@@ -54,7 +80,7 @@ enum-told c = search needs
 
 returns : tie.Need-returns
 unfolding lineOf
-returns c = simp (sym (c .before .before .number .ensures) ∙ ap (λ (r : Scan). startOf r (now (c .before .before .before .before .args .s))) (c .enum-told .given .1))
+returns c = simp (told _ (c .before .before .number .ensures) (c .enum-told .given .1))
 
 number-requires-2 : tie.Need-number-requires-2
 number-requires-2 c κs = search needs
@@ -67,7 +93,7 @@ enum-told-2 c = search needs
 
 returns-2 : tie.Need-returns-2
 unfolding lineOf
-returns-2 c = simp (year (c .before .before .before), sym (c .before .before .number2 .ensures) ∙ ap (λ (r : Scan). startOf r (now (c .before .before .before .before .before .before .before .before .args .s))) (c .enum-told2 .given .1))
+returns-2 c = let f = c .before .before .before in simp (year f, told (bytes f) (c .before .before .number2 .ensures) (c .enum-told2 .given .1))
 
 number-requires-3 : tie.Need-number-requires-3
 number-requires-3 c κs = search needs
@@ -80,7 +106,10 @@ enum-told-3 c = search needs
 
 returns-3 : tie.Need-returns-3
 unfolding lineOf
-returns-3 c = simp (year (c .before .before .before .before .before .before .before), month (c .before .before .before), sym (c .before .before .number3 .ensures) ∙ ap (λ (r : Scan). startOf r (now (c .before .before .before .before .before .before .before .before .before .before .before .before .args .s))) (c .enum-told3 .given .1))
+returns-3 c =
+    let f = c .before .before .before in
+    let y = past-year f in
+    simp (year y, month f, told (bytes y) (c .before .before .number3 .ensures) (c .enum-told3 .given .1))
 
 number-requires-4 : tie.Need-number-requires-4
 number-requires-4 c κs = search needs
@@ -93,7 +122,11 @@ enum-told-4 c = search needs
 
 returns-4 : tie.Need-returns-4
 unfolding lineOf
-returns-4 c = simp (year (c .before .before .before .before .before .before .before .before .before .before .before), month (c .before .before .before .before .before .before .before), day (c .before .before .before), sym (c .before .before .number4 .ensures) ∙ ap (λ (r : Scan). startOf r (now (c .before .before .before .before .before .before .before .before .before .before .before .before .before .before .before .before .args .s))) (c .enum-told4 .given .1))
+returns-4 c =
+    let f = c .before .before .before in
+    let m = past-month f in
+    let y = past-year m in
+    simp (year y, month m, day f, told (bytes y) (c .before .before .number4 .ensures) (c .enum-told4 .given .1))
 
 number-requires-5 : tie.Need-number-requires-5
 number-requires-5 c κs = search needs
@@ -106,11 +139,20 @@ enum-told-5 c = search needs
 
 returns-5 : tie.Need-returns-5
 unfolding lineOf
-returns-5 c = simp (year (c .before .before .before .before .before .before .before .before .before .before .before .before .before .before .before), month (c .before .before .before .before .before .before .before .before .before .before .before), day (c .before .before .before .before .before .before .before), count (c .before .before .before), sym (c .before .before .number5 .ensures) ∙ ap (λ (r : Scan). startOf r (now (c .before .before .before .before .before .before .before .before .before .before .before .before .before .before .before .before .before .before .before .before .args .s))) (c .enum-told5 .given .1))
+returns-5 c =
+    let f = c .before .before .before in
+    let d = past-day f in
+    let m = past-month d in
+    let y = past-year m in
+    simp (year y, month m, day d, count f, told (bytes y) (c .before .before .number5 .ensures) (c .enum-told5 .given .1))
 
 returns-6 : tie.Need-returns-6
 unfolding lineOf
-returns-6 c = simp (year (c .before .before .before .before .before .before .before .before .before .before .before .before .before .before .before .before), month (c .before .before .before .before .before .before .before .before .before .before .before .before), day (c .before .before .before .before .before .before .before .before), count (c .before .before .before .before), step c)
+returns-6 c =
+    let f = past-count c in
+    let d = past-day f in
+    let m = past-month d in
+    simp (year (past-year m), month m, day d, count f, step c)
 
 pub parse-spec : {M : Type 1} → statement M
 parse-spec =

@@ -1,4 +1,4 @@
--- `run_day::main` meets its contract. Assumes nothing.
+-- `run_day::main` is safe: the line is a part of what was read, and the bytes of a run are in the buffer. Assumes nothing.
 use Prim.Native.Nat.{_≤_}
 use native.Mathlib.Omega.{arith}
 use mathlib.Core.Path.{_∙_, sym}
@@ -9,10 +9,14 @@ use borrow.Author.Needs.{needs}
 use Rattle.run_day.proofs.main.Statement.{statement}
 use Rattle.run_day.proofs.main.Tie as tie
 
--- the bytes of a run are in the buffer as `answer` leaves it
-within : (c : tie.After-size) → c .size .given .0 .0 ≤ length (c .before .before .before .answer .last .1 .0)
+-- where the answer is a run
+abbrev answered : tie.After-size → tie.After-answer
+answered c = c .before .before .before
+
+-- its bytes are in the buffer as `answer` leaves it
+within : (c : tie.After-size) → c .size .given .0 .0 ≤ length (answered c .answer .last .1 .0)
 within c =
-    let a = c .before .before .before .answer in
+    let a = answered c .answer in
     omega (arith, run-within _ _ _ (sym (a .ensures .0) ∙ c .size .given .1), a .kept .1 .0)
 
 slice-aggregate-read-line : tie.Need-slice-aggregate-read-line

@@ -1,4 +1,4 @@
--- `run_day::read_line` meets its contract. Assumes nothing.
+-- `run_day::read_line` meets its contract. The invariant: s keeps its length, and n bytes of it are filled; each round fills one more. Assumes nothing.
 use native.Mathlib.Omega.{arith}
 use mathlib.Core.Path.{_≡_}
 use lib.ListN.{length, length-set}

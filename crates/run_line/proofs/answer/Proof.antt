@@ -1,4 +1,4 @@
--- `run_line::answer` meets its contract. Assumes nothing.
+-- `run_line::answer` meets its contract: each of the three ways out is a law of Answers. Assumes nothing.
 use mathlib.Core.Path.{_≡_, _∙_, ap, sym}
 use denote.Ref.{now}
 use lib.IntN.{ℤ}
@@ -21,15 +21,22 @@ use borrow.Author.Needs.{needs}
 use Rattle.run_line.proofs.answer.Statement.{statement}
 use Rattle.run_line.proofs.answer.Tie as tie
 
+-- where the line was parsed, and its date looked at
 module _ (c : tie.After-day-of) where
+  abbrev found : tie.After-l
+  found = c .before .before
+
+  abbrev parsed : tie.After-parse
+  parsed = found .before .before
+
   abbrev s : tie.Start
-  s = c .before .before .before .before .before .before .before
+  s = parsed .before .before .before
 
   abbrev l : Line
-  l = c .before .before .l .given .0 .0
+  l = found .l .given .0 .0
 
   is-line : lineOf (now (s .args .s)) ≡ Parsed l
-  is-line = sym (c .before .before .before .before .parse .ensures) ∙ c .before .before .l .given .1
+  is-line = sym (parsed .parse .ensures) ∙ found .l .given .1
 
 parse-requires : tie.Need-parse-requires
 parse-requires c κs = search needs
@@ -54,8 +61,9 @@ day-run-requires c κs = let a = c .before .before .before .before in step-small
 
 returns : tie.Need-returns
 returns c =
-    let b = c .before .before .before .before .before in
-    bad (now (b .args .s)) (now (b .args .buffer)) (sym (c .before .before .parse .ensures) ∙ c .enum-told .given .1)
+    let p = c .before .before in
+    let b = p .before .before .before in
+    bad (now (b .args .s)) (now (b .args .buffer)) (sym (p .parse .ensures) ∙ c .enum-told .given .1)
 
 returns-2 : tie.Need-returns-2
 returns-2 c =

@@ -18,7 +18,7 @@ returns : tie.Need-returns
 returns c = ap dateRefusalOf (sym (c .enum-told .given .1) ∙ c .before .before .day-of .ensures)
 
 returns-2 : tie.Need-returns-2
-returns-2 c = ap dateRefusalOf (sym (c .before .n .given .1) ∙ c .before .before .before .day-of .ensures)
+returns-2 c = let k = c .before in ap dateRefusalOf (sym (k .n .given .1) ∙ k .before .before .day-of .ensures)
 
 pub enfys-date-refusal-spec : {M : Type 1} → statement M
 enfys-date-refusal-spec =

@@ -16,7 +16,7 @@ enum-told : tie.Need-enum-told
 enum-told c = search needs
 
 returns : tie.Need-returns
-returns c = toZ-ofZ (search needs) ∙ ap dayNumberOf (sym (c .before .d .given .1) ∙ c .before .before .before .day-of .ensures)
+returns c = let k = c .before in toZ-ofZ (search needs) ∙ ap dayNumberOf (sym (k .d .given .1) ∙ k .before .before .day-of .ensures)
 
 returns-2 : tie.Need-returns-2
 returns-2 c = ap dayNumberOf (sym (c .enum-told .given .1) ∙ c .before .before .day-of .ensures)

@@ -15,7 +15,7 @@ enum-told : tie.Need-enum-told
 enum-told c = search needs
 
 returns : tie.Need-returns
-returns c = ap instantMicrosOf (sym (c .before .t .given .1) ∙ c .before .before .before .instant-of .ensures)
+returns c = let k = c .before in ap instantMicrosOf (sym (k .t .given .1) ∙ k .before .before .instant-of .ensures)
 
 returns-2 : tie.Need-returns-2
 returns-2 c = ap instantMicrosOf (sym (c .enum-told .given .1) ∙ c .before .before .instant-of .ensures)

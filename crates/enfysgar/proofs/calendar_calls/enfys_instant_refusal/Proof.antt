@@ -18,7 +18,7 @@ returns : tie.Need-returns
 returns c = ap instantRefusalOf (sym (c .enum-told .given .1) ∙ c .before .before .instant-of .ensures)
 
 returns-2 : tie.Need-returns-2
-returns-2 c = ap instantRefusalOf (sym (c .before .n .given .1) ∙ c .before .before .before .instant-of .ensures)
+returns-2 c = let k = c .before in ap instantRefusalOf (sym (k .n .given .1) ∙ k .before .before .instant-of .ensures)
 
 pub enfys-instant-refusal-spec : {M : Type 1} → statement M
 enfys-instant-refusal-spec =

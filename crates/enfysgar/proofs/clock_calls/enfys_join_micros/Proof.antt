@@ -1,11 +1,15 @@
 -- `enfysgar::clock_calls::enfys_join_micros` meets its contract. Assumes nothing.
-use mathlib.Core.Path.{_∙_, ap, sym}
+use mathlib.Core.Path.{_≡_, _∙_, ap, sym}
 use mir.Facts.{toZ-ofZ}
 use lib.IntN.{ℤ}
 use Rattle.clock.specs.Words.{joinOf, joinedMicrosOf}
 use borrow.Author.Needs.{needs}
 use Rattle.enfysgar.proofs.clock_calls.enfys_join_micros.Statement.{statement}
 use Rattle.enfysgar.proofs.clock_calls.enfys_join_micros.Tie as tie
+
+-- what `join` gave, of the day as it came
+says : (c : tie.After-join) → c .join .result ≡ joinOf (c .before .args .day) (c .before .args .time)
+says c = c .join .ensures ∙ ap (λ (d : ℤ). joinOf d (c .before .args .time)) (toZ-ofZ (c .before .fits .day))
 
 join-requires : tie.Need-join-requires
 join-requires c κs = search needs
@@ -17,10 +21,10 @@ enum-told : tie.Need-enum-told
 enum-told c = search needs
 
 returns : tie.Need-returns
-returns c = ap joinedMicrosOf (sym (c .before .t .given .1) ∙ (c .before .before .before .join .ensures ∙ ap (λ (d : ℤ). joinOf d (c .before .before .before .before .args .time)) (toZ-ofZ (c .before .before .before .before .fits .day))))
+returns c = let k = c .before in ap joinedMicrosOf (sym (k .t .given .1) ∙ says (k .before .before))
 
 returns-2 : tie.Need-returns-2
-returns-2 c = ap joinedMicrosOf (sym (c .enum-told .given .1) ∙ (c .before .before .join .ensures ∙ ap (λ (d : ℤ). joinOf d (c .before .before .before .args .time)) (toZ-ofZ (c .before .before .before .fits .day))))
+returns-2 c = ap joinedMicrosOf (sym (c .enum-told .given .1) ∙ says (c .before .before))
 
 pub enfys-join-micros-spec : {M : Type 1} → statement M
 enfys-join-micros-spec =

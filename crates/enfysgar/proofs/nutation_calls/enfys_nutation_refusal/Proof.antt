@@ -1,11 +1,15 @@
 -- `enfysgar::nutation_calls::enfys_nutation_refusal` meets its contract. Assumes nothing.
-use mathlib.Core.Path.{_∙_, ap, sym}
+use mathlib.Core.Path.{_≡_, _∙_, ap, sym}
 use mir.Facts.{toZ-ofZ}
 use lib.IntN.{ℤ}
 use Rattle.nutation.specs.Ours.{nutationOf, nutationRefusalOf}
 use borrow.Author.Needs.{needs}
 use Rattle.enfysgar.proofs.nutation_calls.enfys_nutation_refusal.Statement.{statement}
 use Rattle.enfysgar.proofs.nutation_calls.enfys_nutation_refusal.Tie as tie
+
+-- what `nutation_of` gave, of the day as it came
+says : (c : tie.After-nutation-of) → c .nutation-of .result ≡ nutationOf (c .before .args .day) (c .before .args .micros)
+says c = c .nutation-of .ensures ∙ ap (λ (d : ℤ). nutationOf d (c .before .args .micros)) (toZ-ofZ (c .before .fits .day))
 
 nutation-of-requires : tie.Need-nutation-of-requires
 nutation-of-requires c κs = search needs
@@ -17,10 +21,10 @@ enum-known-n : tie.Need-enum-known-n
 enum-known-n c = search needs
 
 returns : tie.Need-returns
-returns c = ap nutationRefusalOf (sym (c .enum-told .given .1) ∙ (c .before .before .nutation-of .ensures ∙ ap (λ (d : ℤ). nutationOf d (c .before .before .before .args .micros)) (toZ-ofZ (c .before .before .before .fits .day))))
+returns c = ap nutationRefusalOf (sym (c .enum-told .given .1) ∙ says (c .before .before))
 
 returns-2 : tie.Need-returns-2
-returns-2 c = ap nutationRefusalOf (sym (c .before .n .given .1) ∙ (c .before .before .before .nutation-of .ensures ∙ ap (λ (d : ℤ). nutationOf d (c .before .before .before .before .args .micros)) (toZ-ofZ (c .before .before .before .before .fits .day))))
+returns-2 c = let k = c .before in ap nutationRefusalOf (sym (k .n .given .1) ∙ says (k .before .before))
 
 pub enfys-nutation-refusal-spec : {M : Type 1} → statement M
 enfys-nutation-refusal-spec =

@@ -16,7 +16,7 @@ enum-told : tie.Need-enum-told
 enum-told c = search needs
 
 returns : tie.Need-returns
-returns c = toZ-ofZ (search needs) ∙ ap recordLodOf (sym (c .before .before .t .given .1) ∙ c .before .before .before .before .read .ensures)
+returns c = let k = c .before .before in toZ-ofZ (search needs) ∙ ap recordLodOf (sym (k .t .given .1) ∙ k .before .before .read .ensures)
 
 returns-2 : tie.Need-returns-2
 returns-2 c = ap recordLodOf (sym (c .enum-told .given .1) ∙ c .before .before .read .ensures)

@@ -15,7 +15,7 @@ enum-told : tie.Need-enum-told
 enum-told c = search needs
 
 returns : tie.Need-returns
-returns c = ap recordMicrosOf (sym (c .before .t .given .1) ∙ c .before .before .before .read .ensures)
+returns c = let k = c .before in ap recordMicrosOf (sym (k .t .given .1) ∙ k .before .before .read .ensures)
 
 returns-2 : tie.Need-returns-2
 returns-2 c = ap recordMicrosOf (sym (c .enum-told .given .1) ∙ c .before .before .read .ensures)

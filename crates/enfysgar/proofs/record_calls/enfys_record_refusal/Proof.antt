@@ -18,7 +18,7 @@ returns : tie.Need-returns
 returns c = ap readRefusalOf (sym (c .enum-told .given .1) ∙ c .before .before .read .ensures)
 
 returns-2 : tie.Need-returns-2
-returns-2 c = ap readRefusalOf (sym (c .before .n .given .1) ∙ c .before .before .before .read .ensures)
+returns-2 c = let k = c .before in ap readRefusalOf (sym (k .n .given .1) ∙ k .before .before .read .ensures)
 
 pub enfys-record-refusal-spec : {M : Type 1} → statement M
 enfys-record-refusal-spec =

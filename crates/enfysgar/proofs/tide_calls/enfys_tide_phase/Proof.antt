@@ -1,4 +1,4 @@
--- `enfysgar::enfys_tide_phase` meets its contract. Assumes nothing.
+-- `enfysgar::tide_calls::enfys_tide_phase` meets its contract. Assumes nothing.
 use mathlib.Core.Path.{_∙_, ap}
 use borrow.Author.Needs.{needs}
 use Rattle.tide.specs.Tidal.{phaseOf}
