@@ -1,4 +1,3 @@
-pub mod Time
 pub mod Accepted
 pub mod Places
 pub mod Sizes
@@ -6,3 +5,4 @@ pub mod Rounding
 pub mod Interpolation
 pub mod Distance
 pub mod Promises
+pub mod Same

@@ -4,73 +4,72 @@ use mathlib.Core.Path.{_≡_, sym, ap, subst}
 use mathlib.Core.Logic.{⊎-elim}
 use mathlib.Core.Bool.{Bool, true, false, not, cond}
 use mathlib.Core.List.{List, [], _∷_}
-use Prim.Native.Nat.{ℕ, zero, suc, _+_, _-_, _≤_, _<_, zero-le, suc-le-suc}
+use Prim.Native.Nat.{ℕ, zero, suc, _+_, _*_, _-_, _≤_, _<_, zero-le, suc-le-suc}
 use native.Mathlib.Nat as N
 use native.Mathlib.Omega.{arith}
-use lib.Dec.{T, ltb, leb→le, ltb→lt, nleb→lt, nltb→le, not-T}
+use lib.Dec.{T, leb, ltb, leb→le, ltb→lt, nleb→lt, nltb→le, not-T}
 use lib.ListN.{length}
-use lib.Signed.{leZ}
 use borrow.Author.Tests.{le-leb, lt-leb}
 use Rattle.algebra.proofs.Tests.{cond-case}
 use Rattle.nutation.specs.declared.Row.{Row}
 use Rattle.nutation.specs.declared.Place.{Place}
 use Rattle.nutation.specs.declared.Place.the-variants.{End, Between}
 use Rattle.nutation.specs.Table.{rowAt, AcceptedTable}
-use Rattle.nutation.specs.Exact.{rowDate, started, place}
-use Rattle.instants.specs.Moments.{since}
-use Rattle.nutation.specs.Inner.{dateMoment, Bracket, Inside, Placed}
-use Rattle.nutation.proofs.Time.{before-date, after-date}
+use Rattle.nutation.specs.Exact.{rowMoment, started, place}
+use Rattle.instants.specs.Moments.{moment}
+use Rattle.instants.specs.Limits.{dayMicros, indexOffset}
+use Rattle.nutation.specs.Inner.{Bracket, Inside, Placed}
 
 -- ---- how many rows are dated at or before x
 
-dated : (x : ℕ) (r : Row) → T (leZ (rowDate r) (since x)) → dateMoment r ≤ x
-dated x r t = leb→le (dateMoment r) x (subst T (after-date x r) t)
+dated : (x : ℕ) (r : Row) → T (leb (rowMoment r) x) → rowMoment r ≤ x
+dated x r t = leb→le (rowMoment r) x t
 
-not-dated : (x : ℕ) (r : Row) → T (not (leZ (rowDate r) (since x))) → x < dateMoment r
-not-dated x r t = nleb→lt (dateMoment r) x (subst (λ (b : Bool). T (not b)) (after-date x r) t)
+not-dated : (x : ℕ) (r : Row) → T (not (leb (rowMoment r) x)) → x < rowMoment r
+not-dated x r t = nleb→lt (rowMoment r) x t
 
 -- the last of them
-started-is : (x : ℕ) (rows : List Row) → 0 < started rows (since x) → dateMoment (rowAt rows (started rows (since x) - 1)) ≤ x
+started-is : (x : ℕ) (rows : List Row) → 0 < started rows x → rowMoment (rowAt rows (started rows x - 1)) ≤ x
 unfolding started
 started-is x [] h = absurd (N.not-suc-le-zero h)
-started-is x (r ∷ rs) h = go (started-is x rs) (leZ (rowDate r) (since x)) (dated x r) h
+started-is x (r ∷ rs) h = go (started-is x rs) (leb (rowMoment r) x) (dated x r) h
   where
     s : ℕ
-    s = started rs (since x)
+    s = started rs x
 
     less : (n : ℕ) → suc n - 1 ≡ n
     less n = omega arith
 
-    more : (n : ℕ) → (0 < n → dateMoment (rowAt rs (n - 1)) ≤ x) → dateMoment r ≤ x → dateMoment (rowAt (r ∷ rs) n) ≤ x
+    more : (n : ℕ) → (0 < n → rowMoment (rowAt rs (n - 1)) ≤ x) → rowMoment r ≤ x → rowMoment (rowAt (r ∷ rs) n) ≤ x
     more zero k g = g
-    more (suc n) k g = subst (λ (m : ℕ). dateMoment (rowAt rs m) ≤ x) (less n) (k (N.zero-lt-suc n))
+    more (suc n) k g = subst (λ (m : ℕ). rowMoment (rowAt rs m) ≤ x) (less n) (k (N.zero-lt-suc n))
 
-    go : (0 < s → dateMoment (rowAt rs (s - 1)) ≤ x) → (b : Bool) → (T b → dateMoment r ≤ x) → 0 < cond b (suc s) 0 → dateMoment (rowAt (r ∷ rs) (cond b (suc s) 0 - 1)) ≤ x
-    go f true k g = subst (λ (m : ℕ). dateMoment (rowAt (r ∷ rs) m) ≤ x) (sym (less s)) (more s f (k tt))
+    go : (0 < s → rowMoment (rowAt rs (s - 1)) ≤ x) → (b : Bool) → (T b → rowMoment r ≤ x) → 0 < cond b (suc s) 0 → rowMoment (rowAt (r ∷ rs) (cond b (suc s) 0 - 1)) ≤ x
+    go f true k g = subst (λ (m : ℕ). rowMoment (rowAt (r ∷ rs) m) ≤ x) (sym (less s)) (more s f (k tt))
     go f false k g = absurd (N.not-suc-le-zero g)
 
 -- the next
-next-is : (x : ℕ) (rows : List Row) → started rows (since x) < length rows → x < dateMoment (rowAt rows (started rows (since x)))
+next-is : (x : ℕ) (rows : List Row) → started rows x < length rows → x < rowMoment (rowAt rows (started rows x))
 unfolding started
 next-is x [] h = absurd (N.not-suc-le-zero h)
-next-is x (r ∷ rs) h = go (next-is x rs) (leZ (rowDate r) (since x)) (not-dated x r) h
+next-is x (r ∷ rs) h = go (next-is x rs) (leb (rowMoment r) x) (not-dated x r) h
   where
     s : ℕ
-    s = started rs (since x)
+    s = started rs x
 
-    go : (s < length rs → x < dateMoment (rowAt rs s)) → (b : Bool) → (T (not b) → x < dateMoment r) → cond b (suc s) 0 < suc (length rs) → x < dateMoment (rowAt (r ∷ rs) (cond b (suc s) 0))
+    go : (s < length rs → x < rowMoment (rowAt rs s)) → (b : Bool) → (T (not b) → x < rowMoment r) → cond b (suc s) 0 < suc (length rs) → x < rowMoment (rowAt (r ∷ rs) (cond b (suc s) 0))
     go f true k g = f (N.le-of-suc-le-suc g)
     go f false k g = k tt
 
-started-le : (x : ℕ) (rows : List Row) → started rows (since x) ≤ length rows
+started-le : (x : ℕ) (rows : List Row) → started rows x ≤ length rows
 unfolding started
 started-le x [] = N.le-refl 0
-started-le x (r ∷ rs) = cond-case (leZ (rowDate r) (since x)) (λ (n : ℕ). n ≤ suc (length rs)) (λ t. suc-le-suc (started-le x rs)) (λ t. zero-le)
+started-le x (r ∷ rs) = cond-case (leb (rowMoment r) x) (λ (n : ℕ). n ≤ suc (length rs)) (λ t. suc-le-suc (started-le x rs)) (λ t. zero-le)
 
-started-positive : (x : ℕ) (rows : List Row) → 0 < length rows → dateMoment (rowAt rows 0) ≤ x → 0 < started rows (since x)
+started-positive : (x : ℕ) (rows : List Row) → 0 < length rows → rowMoment (rowAt rows 0) ≤ x → 0 < started rows x
 unfolding started
 started-positive x [] h k = absurd (N.not-suc-le-zero h)
-started-positive x (r ∷ rs) h k = cond-case (leZ (rowDate r) (since x)) (λ (n : ℕ). 0 < n) (λ t. N.zero-lt-suc (started rs (since x))) (λ t. absurd (clash (not-dated x r t) k))
+started-positive x (r ∷ rs) h k = cond-case (leb (rowMoment r) x) (λ (n : ℕ). 0 < n) (λ t. N.zero-lt-suc (started rs x)) (λ t. absurd (clash (not-dated x r t) k))
   where
     clash : {y : ℕ} → x < y → y ≤ x → ⊥
     clash h k = omega arith
@@ -79,18 +78,18 @@ started-positive x (r ∷ rs) h k = cond-case (leZ (rowDate r) (since x)) (λ (n
 
 -- what holds of the rows, and of two neighbours around x, holds of the place of x
 place-case : (P : Place → Type 0) (rows : List Row) (x : ℕ) → 0 < length rows → ((i : ℕ) → i < length rows → P (End (rowAt rows i)))
-    → ((i : ℕ) → suc i < length rows → Inside (rowAt rows i) (rowAt rows (suc i)) x → P (Between (rowAt rows i) (rowAt rows (suc i)))) → P (place rows (since x))
+    → ((i : ℕ) → suc i < length rows → Inside (rowAt rows i) (rowAt rows (suc i)) x → P (Between (rowAt rows i) (rowAt rows (suc i)))) → P (place rows x)
 unfolding place
 place-case P rows x some ends inside =
-    cond-case (leZ (since x) (rowDate (rowAt rows 0))) P (λ t. ends 0 some) (λ t.
-    cond-case (leZ (rowDate (rowAt rows last)) (since x)) P (λ u. ends last (below some)) (λ u.
-    between (nleb→lt x (dateMoment (rowAt rows 0)) (subst (λ (b : Bool). T (not b)) (before-date x (rowAt rows 0)) t)) (not-dated x (rowAt rows last) u)))
+    cond-case (leb x (rowMoment (rowAt rows 0))) P (λ t. ends 0 some) (λ t.
+    cond-case (leb (rowMoment (rowAt rows last)) x) P (λ u. ends last (below some)) (λ u.
+    between (nleb→lt x (rowMoment (rowAt rows 0)) t) (not-dated x (rowAt rows last) u)))
   where
     last : ℕ
     last = length rows - 1
 
     s : ℕ
-    s = started rows (since x)
+    s = started rows x
 
     below : 0 < length rows → length rows - 1 < length rows
     below h = omega arith
@@ -98,25 +97,25 @@ place-case P rows x some ends inside =
     up : (n : ℕ) → 0 < n → suc (n - 1) ≡ n
     up n h = omega arith
 
-    apart : s ≡ length rows → 0 < s → x < dateMoment (rowAt rows last) → ⊥
-    apart e g h = go (subst (λ (n : ℕ). dateMoment (rowAt rows (n - 1)) ≤ x) e (started-is x rows g))
+    apart : s ≡ length rows → 0 < s → x < rowMoment (rowAt rows last) → ⊥
+    apart e g h = go (subst (λ (n : ℕ). rowMoment (rowAt rows (n - 1)) ≤ x) e (started-is x rows g))
       where
-        go : dateMoment (rowAt rows last) ≤ x → ⊥
+        go : rowMoment (rowAt rows last) ≤ x → ⊥
         go k = omega arith
 
     less : (s n : ℕ) → s ≤ n → (s ≡ n → ⊥) → s < n
     less s n h k = ⊎-elim (λ e. absurd (k e)) (λ l. l) (N.eq-or-lt-of-le h)
 
-    between : dateMoment (rowAt rows 0) < x → x < dateMoment (rowAt rows last) → P (Between (rowAt rows (s - 1)) (rowAt rows s))
+    between : rowMoment (rowAt rows 0) < x → x < rowMoment (rowAt rows last) → P (Between (rowAt rows (s - 1)) (rowAt rows s))
     between h k =
         let g = started-positive x rows some (N.le-of-lt h) in
         let l = less s (length rows) (started-le x rows) (λ e. apart e g k) in
         let e = up s g in
         subst (λ (n : ℕ). P (Between (rowAt rows (s - 1)) (rowAt rows n))) e
         (inside (s - 1) (subst (λ (n : ℕ). n < length rows) (sym e) l)
-        (record { low = started-is x rows g; high = subst (λ (n : ℕ). x < dateMoment (rowAt rows n)) (sym e) (next-is x rows l) }))
+        (record { low = started-is x rows g; high = subst (λ (n : ℕ). x < rowMoment (rowAt rows n)) (sym e) (next-is x rows l) }))
 
-pub placed : (rows : List Row) → AcceptedTable rows → (x : ℕ) → Placed (place rows (since x)) x
+pub placed : (rows : List Row) → AcceptedTable rows → (x : ℕ) → Placed (place rows x) x
 placed rows a x = place-case (λ p. Placed p x) rows x (N.le-of-suc-le (a .two)) (λ i l. a .each i l) (λ i l k. (a .each i (N.le-of-suc-le l), a .each (suc i) l, k))
 
 -- ---- the lookup: rows i and i + 1 are around x for one i only
@@ -131,13 +130,13 @@ later rows a j (suc n) h =
     less : j + suc n < length rows → j + n < length rows
     less h = omega arith
 
-later-date : (rows : List Row) → AcceptedTable rows → (j k : ℕ) → j ≤ k → k < length rows → dateMoment (rowAt rows j) ≤ dateMoment (rowAt rows k)
+later-date : (rows : List Row) → AcceptedTable rows → (j k : ℕ) → j ≤ k → k < length rows → rowMoment (rowAt rows j) ≤ rowMoment (rowAt rows k)
 later-date rows a j k h l = go (rowAt rows j) (rowAt rows k) (subst (λ (i : ℕ). rowAt rows j .day ≤ rowAt rows i .day) e (later rows a j (k - j) (subst (λ (i : ℕ). i < length rows) (sym e) l)))
   where
     e : j + (k - j) ≡ k
     e = omega arith
 
-    go : (b c : Row) → b .day ≤ c .day → dateMoment b ≤ dateMoment c
+    go : (b c : Row) → b .day ≤ c .day → rowMoment b ≤ rowMoment c
     go b c h = omega arith
 
 at-least : (m n : ℕ) → (m < n → ⊥) → n ≤ m
@@ -146,11 +145,11 @@ at-least m n f = nltb→le m n (not-T (ltb m n) (λ t. f (ltb→lt m n t)))
 clash : {x p q : ℕ} → x < p → p ≤ q → q ≤ x → ⊥
 clash h k l = omega arith
 
-bracket-is : (rows : List Row) → AcceptedTable rows → (x i : ℕ) → Bracket rows x i → started rows (since x) ≡ i + 1
+bracket-is : (rows : List Row) → AcceptedTable rows → (x i : ℕ) → Bracket rows x i → started rows x ≡ i + 1
 bracket-is rows a x i b = N.le-antisymm (at-least (i + 1) s not-more) (at-least s (i + 1) not-less)
   where
     s : ℕ
-    s = started rows (since x)
+    s = started rows x
 
     not-less : s < i + 1 → ⊥
     not-less h = clash (next-is x rows (omega (arith, b .within))) (later-date rows a s i (omega arith) (omega (arith, b .within))) (b .low)
@@ -161,18 +160,26 @@ bracket-is rows a x i b = N.le-antisymm (at-least (i + 1) s not-more) (at-least 
 -- ---- the place, by the cases that the code goes by
 
 module _ (rows : List Row) (x : ℕ) where
-  pub place-first : x ≤ dateMoment (rowAt rows 0) → place rows (since x) ≡ End (rowAt rows 0)
+  pub place-first : x ≤ rowMoment (rowAt rows 0) → place rows x ≡ End (rowAt rows 0)
   unfolding place
-  place-first h = simp (before-date x (rowAt rows 0), le-leb x (dateMoment (rowAt rows 0)) h)
+  place-first h = simp (le-leb x (rowMoment (rowAt rows 0)) h)
 
-  pub place-last : (n : ℕ) → length rows - 1 ≡ n → dateMoment (rowAt rows 0) < x → dateMoment (rowAt rows n) ≤ x → place rows (since x) ≡ End (rowAt rows n)
+  pub place-last : (n : ℕ) → length rows - 1 ≡ n → rowMoment (rowAt rows 0) < x → rowMoment (rowAt rows n) ≤ x → place rows x ≡ End (rowAt rows n)
   unfolding place
-  place-last n l h k = simp (before-date x (rowAt rows 0), lt-leb x (dateMoment (rowAt rows 0)) h, l, after-date x (rowAt rows n), le-leb (dateMoment (rowAt rows n)) x k)
+  place-last n l h k = simp (lt-leb x (rowMoment (rowAt rows 0)) h, l, le-leb (rowMoment (rowAt rows n)) x k)
 
-  pub place-between : AcceptedTable rows → (n i : ℕ) → length rows - 1 ≡ n → dateMoment (rowAt rows 0) < x → x < dateMoment (rowAt rows n) → Bracket rows x i
-      → place rows (since x) ≡ Between (rowAt rows i) (rowAt rows (i + 1))
+  pub place-between : AcceptedTable rows → (n i : ℕ) → length rows - 1 ≡ n → rowMoment (rowAt rows 0) < x → x < rowMoment (rowAt rows n) → Bracket rows x i
+      → place rows x ≡ Between (rowAt rows i) (rowAt rows (i + 1))
   unfolding place
-  place-between a n i l h k b = simp (before-date x (rowAt rows 0), lt-leb x (dateMoment (rowAt rows 0)) h, l, after-date x (rowAt rows n), lt-leb (dateMoment (rowAt rows n)) x k, bracket-is rows a x i b, less)
+  place-between a n i l h k b = simp (lt-leb x (rowMoment (rowAt rows 0)) h, l, lt-leb (rowMoment (rowAt rows n)) x k, bracket-is rows a x i b, less)
     where
       less : i + 1 - 1 ≡ i
       less = omega arith
+
+-- ---- the microseconds from one row's date to another's
+
+pub days-apart : (a b : Row) → rowMoment b - rowMoment a ≡ (b .day - a .day) * dayMicros
+days-apart a b = go (a .day) (b .day)
+  where
+    go : (a b : ℕ) → moment (b + indexOffset) 0 - moment (a + indexOffset) 0 ≡ (b - a) * dayMicros
+    go a b = omega arith

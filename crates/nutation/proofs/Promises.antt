@@ -7,37 +7,38 @@ use native.Mathlib.Omega.{arith}
 use lib.Dec.{T, ltb, ltb→lt}
 use lib.IntN.{ℤ, pos, _-ℤ_, _*ℤ_, natAbs}
 use Rattle.instants.specs.Instants.{outside, dayIndex, acceptance, IsAccepted}
-use Rattle.instants.proofs.Accepted.{accepted-at, answered-too}
+use Rattle.instants.proofs.Accepted.{answered-too}
+use Rattle.instants.proofs.Moments.{accepted-le}
 use Rattle.algebra.specs.Integers.{+_}
 use Rattle.algebra.specs.Near.{Near}
 use Rattle.algebra.proofs.Ring.{end, _▸_, ring, quote}
 use Rattle.algebra.proofs.Near.{near-as, near-sym, near-trans, near-unscale}
 use Rattle.sine.specs.Exact.{wholeTurn}
 use Rattle.sine.specs.Ours.{alternating, sineQuarter, quarterTurn, ourSine, ourCosine}
-use Rattle.instants.specs.Moments.{sinceJ2000}
+use Rattle.instants.specs.Moments.{momentOf}
 use Rattle.nutation.specs.declared.Row.{Row}
 use Rattle.nutation.specs.declared.Offsets.{Offsets}
 use Rattle.nutation.specs.declared.NutationAnswer.the-variants.{Nutation, NoNutation}
 use Rattle.nutation.specs.Table.{AcceptedTable, builtIn}
-use Rattle.nutation.specs.Exact.{rowDate, started, place, span, exactX, exactY, exactDen}
-use Rattle.nutation.specs.Ours.{momentOf, ourAngle, factor, mixed, amplitude, offset, offsetsAt, ourOffsets, nutationWith, nutationOf}
+use Rattle.nutation.specs.Exact.{started, place, span, exactX, exactY, exactDen}
+use Rattle.nutation.specs.Ours.{ourAngle, factor, mixed, amplitude, offset, offsetsAt, ourOffsets, nutationWith, nutationOf}
 use Rattle.nutation.specs.Claims.{distance, Within, OffsetsNear}
 use Rattle.nutation.proofs.Accepted.{builtIn-accepted}
 use Rattle.nutation.proofs.Distance.{offsets-near}
 
 -- ---- accepted instants
 
-near-here : (rows : List Row) → AcceptedTable rows → (d : ℤ) (m : ℕ) → IsAccepted d m → OffsetsNear rows (sinceJ2000 d m) (ourOffsets rows (sinceJ2000 d m))
-near-here rows t d m a = let k = accepted-at d m (dayIndex d) a in offsets-near rows t d (dayIndex d) m (k .is) (omega (arith, k .high)) (k .less)
+near-here : (rows : List Row) → AcceptedTable rows → (d : ℤ) (m : ℕ) → IsAccepted d m → OffsetsNear rows (momentOf d m) (ourOffsets rows (momentOf d m))
+near-here rows t d m a = offsets-near rows t (momentOf d m) (accepted-le d m a)
 
 -- PROMISE. With any accepted table the answer at every accepted instant is given, both offsets within 2 nanoarcseconds of the exact ones and the
 -- uncertainty exact.
 pub answer-near : (rows : List Row) → AcceptedTable rows → (d : ℤ) (m : ℕ) → IsAccepted d m
-    → (o : Offsets) × (nutationWith rows d m ≡ Nutation o) × OffsetsNear rows (sinceJ2000 d m) o
-answer-near rows t d m a = (ourOffsets rows (sinceJ2000 d m), sym (answered-too NoNutation _ d m a), near-here rows t d m a)
+    → (o : Offsets) × (nutationWith rows d m ≡ Nutation o) × OffsetsNear rows (momentOf d m) o
+answer-near rows t d m a = (ourOffsets rows (momentOf d m), sym (answered-too NoNutation _ d m a), near-here rows t d m a)
 
 -- PROMISE. So is the service's answer, of the built-in rows.
-pub nutation-near : (d : ℤ) (m : ℕ) → IsAccepted d m → (o : Offsets) × (nutationOf d m ≡ Nutation o) × OffsetsNear builtIn (sinceJ2000 d m) o
+pub nutation-near : (d : ℤ) (m : ℕ) → IsAccepted d m → (o : Offsets) × (nutationOf d m ≡ Nutation o) × OffsetsNear builtIn (momentOf d m) o
 unfolding nutationOf
 nutation-near d m a = answer-near builtIn builtIn-accepted d m a
 
@@ -69,25 +70,25 @@ unfolding acceptance outside dayIndex
 late-accepted = refl
 
 -- either offset, ours and the exact one
-no-constant : (ours exact : ℤ → ℤ) → ((d : ℤ) (m : ℕ) → IsAccepted d m → Within (ours (sinceJ2000 d m)) (exact (sinceJ2000 d m)) (exactDen builtIn (sinceJ2000 d m)))
-    → T (ltb (4 * distance) (natAbs (ours (sinceJ2000 (+ 46796) 0) -ℤ ours (sinceJ2000 (+ 54832) 0))))
-    → (c : ℤ) → ((d : ℤ) (m : ℕ) → IsAccepted d m → Within c (exact (sinceJ2000 d m)) (exactDen builtIn (sinceJ2000 d m))) → ⊥
+no-constant : (ours exact : ℕ → ℤ) → ((d : ℤ) (m : ℕ) → IsAccepted d m → Within (ours (momentOf d m)) (exact (momentOf d m)) (exactDen builtIn (momentOf d m)))
+    → T (ltb (4 * distance) (natAbs (ours (momentOf (+ 46796) 0) -ℤ ours (momentOf (+ 54832) 0))))
+    → (c : ℤ) → ((d : ℤ) (m : ℕ) → IsAccepted d m → Within c (exact (momentOf d m)) (exactDen builtIn (momentOf d m))) → ⊥
 no-constant ours exact near t c h = far (at (+ 46796) 0 early-accepted) (at (+ 54832) 0 late-accepted) t
   where
-    at : (d : ℤ) (m : ℕ) → IsAccepted d m → Near c (ours (sinceJ2000 d m)) (2 * distance)
+    at : (d : ℤ) (m : ℕ) → IsAccepted d m → Near c (ours (momentOf d m)) (2 * distance)
     at d m a = close (near-here builtIn builtIn-accepted d m a .den-positive) (h d m a) (near d m a)
 
 abbrev atBoth : (Offsets → ℤ) → ℤ
-atBoth f = f (ourOffsets builtIn (sinceJ2000 (+ 46796) 0)) -ℤ f (ourOffsets builtIn (sinceJ2000 (+ 54832) 0))
+atBoth f = f (ourOffsets builtIn (momentOf (+ 46796) 0)) -ℤ f (ourOffsets builtIn (momentOf (+ 54832) 0))
 
 both-apart : T (ltb (4 * distance) (natAbs (atBoth (λ o. o .x)))) × T (ltb (4 * distance) (natAbs (atBoth (λ o. o .y))))
-unfolding offsetsAt builtIn place started rowDate span factor mixed amplitude offset momentOf ourAngle ourSine ourCosine wholeTurn quarterTurn sineQuarter alternating
+unfolding offsetsAt builtIn place started span factor mixed amplitude offset dayIndex ourAngle ourSine ourCosine wholeTurn quarterTurn sineQuarter alternating
 both-apart = (tt, tt)
 
 -- PROMISE. No one number, zero among them, is within 2 nanoarcseconds of X at every accepted instant.
-pub no-constant-x : (c : ℤ) → ((d : ℤ) (m : ℕ) → IsAccepted d m → Within c (exactX builtIn (sinceJ2000 d m)) (exactDen builtIn (sinceJ2000 d m))) → ⊥
-no-constant-x = no-constant (λ n. ourOffsets builtIn n .x) (exactX builtIn) (λ d m a. near-here builtIn builtIn-accepted d m a .x-near) (both-apart .0)
+pub no-constant-x : (c : ℤ) → ((d : ℤ) (m : ℕ) → IsAccepted d m → Within c (exactX builtIn (momentOf d m)) (exactDen builtIn (momentOf d m))) → ⊥
+no-constant-x = no-constant (λ x. ourOffsets builtIn x .x) (exactX builtIn) (λ d m a. near-here builtIn builtIn-accepted d m a .x-near) (both-apart .0)
 
 -- PROMISE. And none of Y.
-pub no-constant-y : (c : ℤ) → ((d : ℤ) (m : ℕ) → IsAccepted d m → Within c (exactY builtIn (sinceJ2000 d m)) (exactDen builtIn (sinceJ2000 d m))) → ⊥
-no-constant-y = no-constant (λ n. ourOffsets builtIn n .y) (exactY builtIn) (λ d m a. near-here builtIn builtIn-accepted d m a .y-near) (both-apart .1)
+pub no-constant-y : (c : ℤ) → ((d : ℤ) (m : ℕ) → IsAccepted d m → Within c (exactY builtIn (momentOf d m)) (exactDen builtIn (momentOf d m))) → ⊥
+no-constant-y = no-constant (λ x. ourOffsets builtIn x .y) (exactY builtIn) (λ d m a. near-here builtIn builtIn-accepted d m a .y-near) (both-apart .1)

@@ -5,21 +5,13 @@ use mathlib.Core.List.{List, [], _∷_}
 use Prim.Native.Nat.{ℕ, _+_, _*_, _-_, _^_, _≤_, _<_}
 use lib.IntN.{ℤ, pos, natAbs}
 use lib.ListN.{length, getD}
-use Rattle.instants.specs.Moments.{moment}
 use Rattle.nutation.specs.declared.Row.{Row}
 use Rattle.nutation.specs.declared.Place.{Place}
 use Rattle.nutation.specs.declared.Place.the-variants.{End, Between}
 use Rattle.nutation.specs.declared.Amplitudes.{Amplitudes}
 use Rattle.nutation.specs.Table.{row, rowAt, largest, AcceptedRow, AcceptedTable}
-use Rattle.nutation.specs.Exact.{roundUp}
-use Rattle.instants.specs.Limits.{indexOffset}
+use Rattle.nutation.specs.Exact.{rowMoment, roundUp}
 use Rattle.nutation.specs.Ours.{ourXC, ourXS}
-
--- ---- time: the code counts x, the microseconds since five centuries before J2000.0
-
--- a row's date as x
-abbrev pub dateMoment : Row → ℕ
-dateMoment r = moment (r .day + indexOffset) 0
 
 -- ---- a table that is lent: rows of four numbers
 
@@ -47,12 +39,12 @@ pub record Lent (t : List (List ℤ)) : Type 0 where
 -- the lookup: the row i is dated at or before x, and the next after it
 pub record Bracket (rows : List Row) (x i : ℕ) : Type 0 where
   pub within : i + 1 < length rows
-  pub low : dateMoment (rowAt rows i) ≤ x
-  pub high : x < dateMoment (rowAt rows (i + 1))
+  pub low : rowMoment (rowAt rows i) ≤ x
+  pub high : x < rowMoment (rowAt rows (i + 1))
 
 pub record Inside (a b : Row) (x : ℕ) : Type 0 where
-  pub low : dateMoment a ≤ x
-  pub high : x < dateMoment b
+  pub low : rowMoment a ≤ x
+  pub high : x < rowMoment b
 
 -- what a place has when it is one of an accepted table
 abbrev pub Placed : Place → ℕ → Type 0
@@ -61,8 +53,8 @@ Placed (Between a b) x = AcceptedRow a × AcceptedRow b × Inside a b x
 
 -- ---- the steps to the offsets
 
-unfoldable pub amplitudes : Place → ℤ → Amplitudes
-amplitudes p n = record { xc = ourXC p n; xs = ourXS p n }
+unfoldable pub amplitudes : Place → ℕ → Amplitudes
+amplitudes p x = record { xc = ourXC p x; xs = ourXS p x }
 
 -- two rows' amplitudes, and a factor
 pub record MixBounds (c d : ℤ) (l : ℕ) : Type 0 where

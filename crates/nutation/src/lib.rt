@@ -2,16 +2,15 @@
 // The offsets are ours in whole numbers (specs/Ours.antt), within two nanoarcseconds of the exact ones (proofs/Distance.antt); the uncertainty is exact.
 use instants::Acceptance;
 ghost use mathlib.Core.Path.{_≡_};
-ghost use Prim.Native.Nat.{_+_, _-_, _*_, _/_, _^_, _≤_, _<_};
-ghost use lib.IntN.{ℤ};
+ghost use Prim.Native.Nat.{ℕ, _+_, _-_, _*_, _/_, _^_, _≤_, _<_};
 ghost use lib.ListN.{length};
 ghost use Rattle.instants.specs.Limits.{dayMicros};
 ghost use Rattle.algebra.specs.Integers.{dist};
-ghost use Rattle.instants.specs.Moments.{latest, since};
+ghost use Rattle.instants.specs.Moments.{latest};
 ghost use Rattle.nutation.specs.Table.{rowAt, lastRowDay, largest, AcceptedRow};
-ghost use Rattle.nutation.specs.Exact.{place, roundUp, uncertaintyAt};
+ghost use Rattle.nutation.specs.Exact.{rowMoment, place, roundUp, uncertaintyAt};
 ghost use Rattle.nutation.specs.Ours.{ourAngle, mixed, offset, offsetsAt, nutationOf};
-ghost use Rattle.nutation.specs.Inner.{dateMoment, rowsOf, Lent, Bracket, Inside, Placed, amplitudes, MixBounds, OffsetBounds, twiceBetween};
+ghost use Rattle.nutation.specs.Inner.{rowsOf, Lent, Bracket, Inside, Placed, amplitudes, MixBounds, OffsetBounds, twiceBetween};
 
 // A row of a table: the day number of its date, the amplitudes and the uncertainty in hundredths of a microarcsecond.
 struct Row {
@@ -83,7 +82,7 @@ const ROWS: [[i64; 4]; 30] = [
 // The moment of 0 h of a row's day.
 fn date_of(r: Row) -> u64
     requires { ⌜ AcceptedRow r ⌝ }
-    ensures { λ q. ⌜ q ≡ dateMoment r ⌝ }
+    ensures { λ q. ⌜ q ≡ rowMoment r ⌝ }
 {
     instants::moment(r.day + 94553, 0)
 }
@@ -102,7 +101,7 @@ fn row_at(t: &[[i64; 4]], i: usize) -> Row
 
 // The rows i and i + 1 around a moment that is neither before the first row nor at or after the last.
 fn lookup(t: &[[i64; 4]], x: u64) -> usize
-    requires { ⌜ Lent (now t) × (dateMoment (rowAt (rowsOf (now t)) 0) ≤ x) × (x < dateMoment (rowAt (rowsOf (now t)) (length (now t) - 1))) ⌝ }
+    requires { ⌜ Lent (now t) × (rowMoment (rowAt (rowsOf (now t)) 0) ≤ x) × (x < rowMoment (rowAt (rowsOf (now t)) (length (now t) - 1))) ⌝ }
     ensures { λ i. ⌜ Bracket (rowsOf (now (t .entry))) x i ⌝ }
 {
     let last = t.len() - 2;
@@ -118,7 +117,7 @@ fn lookup(t: &[[i64; 4]], x: u64) -> usize
 
 fn place_at(t: &[[i64; 4]], x: u64) -> Place
     requires { ⌜ Lent (now t) ⌝ }
-    ensures { λ p. ⌜ p ≡ place (rowsOf (now (t .entry))) (since x) ⌝ }
+    ensures { λ p. ⌜ p ≡ place (rowsOf (now (t .entry))) x ⌝ }
 {
     let first = row_at(t, 0);
     if x <= date_of(first) {
@@ -150,7 +149,7 @@ fn mixed_of(c: i64, d: i64, l: u64) -> i64
 
 fn amplitudes_end(r: Row) -> Amplitudes
     requires { ⌜ AcceptedRow r ⌝ }
-    ensures { λ q. ⌜ ((n : ℤ) → q ≡ amplitudes (Place.End r) n) ⌝ }
+    ensures { λ q. ⌜ ((x : ℕ) → q ≡ amplitudes (Place.End r) x) ⌝ }
 {
     Amplitudes {
         xc: r.xc * 1024,
@@ -160,7 +159,7 @@ fn amplitudes_end(r: Row) -> Amplitudes
 
 fn amplitudes_between(a: Row, b: Row, x: u64) -> Amplitudes
     requires { ⌜ AcceptedRow a × AcceptedRow b × Inside a b x ⌝ }
-    ensures { λ q. ⌜ q ≡ amplitudes (Place.Between a b) (since x) ⌝ }
+    ensures { λ q. ⌜ q ≡ amplitudes (Place.Between a b) x ⌝ }
 {
     let l = factor_of(b.day - a.day, x - date_of(a));
     Amplitudes {
@@ -171,7 +170,7 @@ fn amplitudes_between(a: Row, b: Row, x: u64) -> Amplitudes
 
 fn amplitudes_at(p: Place, x: u64) -> Amplitudes
     requires { ⌜ Placed p x ⌝ }
-    ensures { λ q. ⌜ q ≡ amplitudes p (since x) ⌝ }
+    ensures { λ q. ⌜ q ≡ amplitudes p x ⌝ }
 {
     match p {
         Place::End(r) => amplitudes_end(r),
@@ -215,7 +214,7 @@ fn apart(x: u64, y: u64) -> u64
 // Twice u at or outside an end, rounded up: 26.5 hundredths of a microarcsecond are 265 nanoarcseconds.
 fn uncertainty_end(r: Row, x: u64) -> u64
     requires { ⌜ AcceptedRow r × (x ≤ latest) ⌝ }
-    ensures { λ q. ⌜ q ≡ uncertaintyAt (Place.End r) (since x) ⌝ }
+    ensures { λ q. ⌜ q ≡ uncertaintyAt (Place.End r) x ⌝ }
 {
     20 * r.uncertainty + round_up(265 * apart(x, date_of(r)), 86400000000)
 }
@@ -233,14 +232,14 @@ fn uncertainty_mixed(u: u64, v: u64, days: u64, after: u64) -> u64
 
 fn uncertainty_between(a: Row, b: Row, x: u64) -> u64
     requires { ⌜ AcceptedRow a × AcceptedRow b × Inside a b x ⌝ }
-    ensures { λ q. ⌜ q ≡ uncertaintyAt (Place.Between a b) (since x) ⌝ }
+    ensures { λ q. ⌜ q ≡ uncertaintyAt (Place.Between a b) x ⌝ }
 {
     uncertainty_mixed(a.uncertainty, b.uncertainty, b.day - a.day, x - date_of(a))
 }
 
 fn uncertainty_of(p: Place, x: u64) -> u64
     requires { ⌜ Placed p x × (x ≤ latest) ⌝ }
-    ensures { λ r. ⌜ r ≡ uncertaintyAt p (since x) ⌝ }
+    ensures { λ r. ⌜ r ≡ uncertaintyAt p x ⌝ }
 {
     match p {
         Place::End(r) => uncertainty_end(r, x),
@@ -251,7 +250,7 @@ fn uncertainty_of(p: Place, x: u64) -> u64
 // The offsets and the uncertainty at a place. YC is XS, and YS is -XC.
 fn offsets_of(p: Place, x: u64) -> Offsets
     requires { ⌜ Placed p x × (x ≤ latest) ⌝ }
-    ensures { λ r. ⌜ r ≡ offsetsAt p (since x) ⌝ }
+    ensures { λ r. ⌜ r ≡ offsetsAt p x ⌝ }
 {
     let a = amplitudes_at(p, x);
     let b = angle_at(x);
@@ -267,7 +266,7 @@ fn offsets_of(p: Place, x: u64) -> Offsets
 // The offsets of a table that is lent.
 fn offsets_at(t: &[[i64; 4]], x: u64) -> Offsets
     requires { ⌜ Lent (now t) × (x ≤ latest) ⌝ }
-    ensures { λ r. ⌜ r ≡ offsetsAt (place (rowsOf (now (t .entry))) (since x)) (since x) ⌝ }
+    ensures { λ r. ⌜ r ≡ offsetsAt (place (rowsOf (now (t .entry))) x) x ⌝ }
 {
     offsets_of(place_at(t, x), x)
 }

@@ -7,13 +7,13 @@ use Rattle.bigendian.specs.Numbers.{wordSum}
 use Rattle.record.specs.Format.{recordBytes}
 use Rattle.record.specs.Records.{formRefusal, readOf}
 use Rattle.nutation.specs.Table.{builtIn}
-use Rattle.nutation.specs.Exact.{rowDate, started, place, span, value, uValue, uParts, uncertaintyAt}
+use Rattle.nutation.specs.Exact.{started, place, span, value, uValue, uParts, uncertaintyAt}
 use Rattle.nutation.specs.Ours.{offsetsAt, nutationOf}
 use Rattle.reference.specs.Rows.{Says, EveryRow, rows}
 
 -- PROMISE. Every row of the list of reference values holds.
 pub every-row : EveryRow rows
-unfolding EveryRow Says rows outside dayIndex acceptance leapYear monthLengths monthLength sum yearLength daysOfYears daysBefore dateIndex dayAtIndex dayOf splitOf joinOf wordSum recordBytes formRefusal readOf builtIn rowDate started place span value uValue uParts uncertaintyAt offsetsAt nutationOf
+unfolding EveryRow Says rows outside dayIndex acceptance leapYear monthLengths monthLength sum yearLength daysOfYears daysBefore dateIndex dayAtIndex dayOf splitOf joinOf wordSum recordBytes formRefusal readOf builtIn started place span value uValue uParts uncertaintyAt offsetsAt nutationOf
 every-row = (
   refl,
   (

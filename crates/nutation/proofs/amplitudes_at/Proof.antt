@@ -1,7 +1,6 @@
 -- `nutation::amplitudes_at` meets its contract: by the two kinds of place. Assumes nothing.
 use mathlib.Core.Path.{sym, _∙_, ap, subst}
 use Rattle.nutation.specs.declared.Place.{Place}
-use Rattle.instants.specs.Moments.{since}
 use Rattle.nutation.specs.Inner.{Placed, amplitudes}
 use borrow.Author.Needs.{needs}
 use Rattle.nutation.proofs.amplitudes_at.Statement.{statement}
@@ -20,10 +19,10 @@ amplitudes-between-requires : tie.Need-amplitudes-between-requires
 amplitudes-between-requires c κs = subst (λ (p : Place). Placed p (c .before .before .before .args .x)) (c .before .p2 .given .1) (c .before .before .before .pre)
 
 returns : tie.Need-returns
-returns c = let x = c .before .before .before .before .args .x in c .amplitudes-end .ensures (since x) ∙ sym (ap (λ (p : Place). amplitudes p (since x)) (c .before .before .p .given .1))
+returns c = let x = c .before .before .before .before .args .x in c .amplitudes-end .ensures x ∙ sym (ap (λ (p : Place). amplitudes p x) (c .before .before .p .given .1))
 
 returns-2 : tie.Need-returns-2
-returns-2 c = let x = c .before .before .before .before .args .x in c .amplitudes-between .ensures ∙ sym (ap (λ (p : Place). amplitudes p (since x)) (c .before .before .p2 .given .1))
+returns-2 c = let x = c .before .before .before .before .args .x in c .amplitudes-between .ensures ∙ sym (ap (λ (p : Place). amplitudes p x) (c .before .before .p2 .given .1))
 
 pub amplitudes-at-spec : {M : Type 1} → statement M
 amplitudes-at-spec =

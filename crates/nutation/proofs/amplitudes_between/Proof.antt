@@ -8,7 +8,6 @@ use mir.Facts.{toZ-ofZ}
 use Rattle.instants.specs.Limits.{dayMicros}
 use Rattle.nutation.specs.declared.Amplitudes.{Amplitudes}
 use Rattle.nutation.specs.Ours.{factor, mixed, amplitude}
-use Rattle.instants.specs.Moments.{since}
 use Rattle.nutation.specs.Inner.{amplitudes}
 use Rattle.nutation.proofs.Sizes.{factor-is}
 use borrow.Author.Needs.{needs}
@@ -50,7 +49,7 @@ returns c =
     let yb : SFits w64 (s .args .b .xs) = search needs in
     let x : SFits w64 (c .before .before .before .mixed-of .result) = search needs in
     let y : SFits w64 (c .mixed-of2 .result) = search needs in
-    let l : c .before .before .before .before .before .before .factor-of .result ≡ factor (s .args .a) (s .args .b) (since (s .args .x)) =
+    let l : c .before .before .before .before .before .before .factor-of .result ≡ factor (s .args .a) (s .args .b) (s .args .x) =
     c .before .before .before .before .before .before .factor-of .ensures .0
     ∙ ap (λ (k : ℕ). (s .args .x - k) * 2 ^ 27 / ((s .args .b .day - s .args .a .day) * dayMicros)) (c .before .before .before .before .before .before .before .date-of .ensures)
     ∙ sym (factor-is (s .args .a) (s .args .b) (s .args .x) (s .pre .2)) in

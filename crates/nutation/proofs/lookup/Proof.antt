@@ -5,13 +5,14 @@ use native.Mathlib.Nat.{le-trans, le-of-eq, lt-of-lt-of-le}
 use native.Mathlib.Omega.{arith}
 use lib.ListN.{length}
 use Rattle.nutation.specs.Table.{rowAt}
-use Rattle.nutation.specs.Inner.{dateMoment, rowsOf}
+use Rattle.nutation.specs.Exact.{rowMoment}
+use Rattle.nutation.specs.Inner.{rowsOf}
 use Rattle.nutation.proofs.Accepted.{rows-length}
 use Rattle.nutation.proofs.lookup.Statement.{statement}
 use Rattle.nutation.proofs.lookup.Tie as tie
 
 abbrev Inv-loop : tie.InvT-loop
-Inv-loop t x last i₀ i = (i + 2 ≤ length t) × (dateMoment (rowAt (rowsOf t) i) ≤ x)
+Inv-loop t x last i₀ i = (i + 2 ≤ length t) × (rowMoment (rowAt (rowsOf t) i) ≤ x)
 
 abbrev μ-loop : tie.MeasureT-loop
 μ-loop t x last i₀ i = length t - i
@@ -37,7 +38,7 @@ returns c =
     record {
       within = omega (arith, rows-length (s .args .t .now), c .before .before .before .loop-test .taken);
       low = c .before .before .before .before .loop .inv .1;
-      high = lt-of-lt-of-le (c .if1 .taken) (le-of-eq (c .before .date-of .ensures ∙ ap dateMoment (c .before .before .row-at .ensures .0)));
+      high = lt-of-lt-of-le (c .if1 .taken) (le-of-eq (c .before .date-of .ensures ∙ ap rowMoment (c .before .before .row-at .ensures .0)));
     }
 
 add-i : tie.Need-add-i Inv-loop μ-loop
@@ -47,7 +48,7 @@ loop-less : tie.Need-loop-less Inv-loop μ-loop
 loop-less c = omega arith
 
 loop-again : tie.Need-loop-again Inv-loop μ-loop
-loop-again c = (omega (arith, c .before .before .before .loop-test .taken), le-trans (le-of-eq (sym (c .before .date-of .ensures ∙ ap dateMoment (c .before .before .row-at .ensures .0)))) (c .if1 .left))
+loop-again c = (omega (arith, c .before .before .before .loop-test .taken), le-trans (le-of-eq (sym (c .before .date-of .ensures ∙ ap rowMoment (c .before .before .row-at .ensures .0)))) (c .if1 .left))
 
 returns-2 : tie.Need-returns-2 Inv-loop μ-loop
 returns-2 c =
@@ -56,7 +57,7 @@ returns-2 c =
     record {
       within = omega (arith, rows-length (s .args .t .now), c .before .loop .inv .0);
       low = c .before .loop .inv .1;
-      high = subst (λ (k : ℕ). s .args .x < dateMoment (rowAt (rowsOf (s .args .t .now)) k)) last (s .pre .2);
+      high = subst (λ (k : ℕ). s .args .x < rowMoment (rowAt (rowsOf (s .args .t .now)) k)) last (s .pre .2);
     }
 
 pub lookup-spec : {M : Type 1} → statement M

@@ -1,6 +1,7 @@
 -- `nutation::nutation_of` meets its contract: by the two cases of acceptance. Assumes nothing.
 use mathlib.Core.Path.{_≡_, sym, _∙_, ap, ap₂}
 use mathlib.Core.List.{List}
+use Prim.Native.Nat.{ℕ}
 use native.Mathlib.Nat.{le-trans, le-of-eq}
 use native.Mathlib.Omega.{arith}
 use lib.IntN.{ℤ}
@@ -8,7 +9,7 @@ use mir.Facts.{toZ-ofZ}
 use Rattle.instants.specs.Instants.{acceptance}
 use Rattle.instants.specs.declared.Acceptance.the-variants.{Accepted}
 use Rattle.instants.proofs.Accepted.{AcceptedAt, accepted-at, refused-too, answered-too}
-use Rattle.instants.specs.Moments.{moment, since}
+use Rattle.instants.specs.Moments.{moment}
 use Rattle.instants.proofs.Moments.{moment-le}
 use Rattle.nutation.specs.declared.Row.{Row}
 use Rattle.nutation.specs.declared.NutationAnswer.the-variants.{Nutation, NoNutation}
@@ -16,7 +17,6 @@ use Rattle.nutation.specs.Table.{builtIn}
 use Rattle.nutation.specs.Exact.{place}
 use Rattle.nutation.specs.Ours.{offsetsAt, nutationOf}
 use Rattle.nutation.specs.Inner.{numbers}
-use Rattle.nutation.proofs.Time.{instant-is}
 use Rattle.nutation.proofs.Accepted.{builtIn-accepted, lent, builtIn-rows}
 use borrow.Author.Needs.{needs}
 use Rattle.nutation.proofs.nutation_of.Statement.{statement}
@@ -61,7 +61,7 @@ unfolding nutationOf numbers builtIn
 returns-2 c =
     let a = c .before .before in
     let s = a .before .before .before .before .before in
-    ap Nutation (c .offsets-at .ensures ∙ ap₂ (λ (rows : List Row) (n : ℤ). offsetsAt (place rows n) n) builtIn-rows (ap since (c .before .moment .ensures) ∙ sym (instant-is (s .args .day) _ (s .args .micros) (known a .is))))
+    ap Nutation (c .offsets-at .ensures ∙ ap₂ (λ (rows : List Row) (x : ℕ). offsetsAt (place rows x) x) builtIn-rows (c .before .moment .ensures ∙ ap (λ (i : ℕ). moment i (s .args .micros)) (sym (known a .index))))
     ∙ answered-too NoNutation _ _ _ (says a)
 
 pub nutation-of-spec : {M : Type 1} → statement M

@@ -2,7 +2,6 @@
 use mathlib.Core.Path.{sym, _∙_, ap, subst}
 use Rattle.nutation.specs.declared.Place.{Place}
 use Rattle.nutation.specs.Ours.{offsetsAt}
-use Rattle.instants.specs.Moments.{since}
 use Rattle.nutation.specs.Inner.{rowsOf, Placed}
 use Rattle.nutation.proofs.Places.{placed}
 use borrow.Author.Needs.{needs}
@@ -16,7 +15,7 @@ offsets-of-requires : tie.Need-offsets-of-requires
 offsets-of-requires c κs = (subst (λ (p : Place). Placed p (c .before .args .x)) (sym (c .place-at .ensures)) (placed (rowsOf (c .before .args .t .now)) (c .before .pre .0 .accepted) (c .before .args .x)), c .before .pre .1)
 
 returns : tie.Need-returns
-returns c = c .offsets-of .ensures ∙ ap (λ (p : Place). offsetsAt p (since (c .before .before .args .x))) (c .before .place-at .ensures)
+returns c = c .offsets-of .ensures ∙ ap (λ (p : Place). offsetsAt p (c .before .before .args .x)) (c .before .place-at .ensures)
 
 pub offsets-at-spec : {M : Type 1} → statement M
 offsets-at-spec = tie.close (tie.spec place-at-requires offsets-of-requires returns)

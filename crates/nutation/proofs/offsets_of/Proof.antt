@@ -1,5 +1,5 @@
 -- `nutation::offsets_of` meets its contract: the amplitudes are within 1000 microarcseconds, and the angle is below a turn. Assumes nothing.
-use mathlib.Core.Path.{_≡_, sym, _∙_, ap}
+use mathlib.Core.Path.{_≡_, _∙_, ap}
 use Prim.Native.Nat.{ℕ, _%_, _^_, _≤_}
 use native.Mathlib.Nat as N
 use lib.IntN.{ℤ, pos, _-ℤ_, natAbs}
@@ -13,10 +13,8 @@ use Rattle.sine.proofs.Sizes.{sine-below, cosine-below}
 use Rattle.nutation.specs.declared.Place.{Place}
 use Rattle.nutation.specs.declared.Amplitudes.{Amplitudes}
 use Rattle.nutation.specs.declared.Offsets.{Offsets}
-use Rattle.nutation.specs.Ours.{momentOf, ourAngle, ourXC, ourXS, ourYS, offset, offsetsAt}
-use Rattle.instants.specs.Moments.{since}
+use Rattle.nutation.specs.Ours.{ourAngle, ourXC, ourXS, ourYS, offset, offsetsAt}
 use Rattle.nutation.specs.Inner.{amplitudes, widest}
-use Rattle.nutation.proofs.Time.{moment-back}
 use Rattle.nutation.proofs.Sizes.{amplitude-small, minus-fits, angle-less}
 use borrow.Author.Needs.{needs}
 use Rattle.nutation.proofs.offsets_of.Statement.{statement}
@@ -25,11 +23,11 @@ use Rattle.nutation.proofs.offsets_of.Tie as tie
 abbrev place : tie.After-sine → Place
 place c = c .before .before .before .before .args .p
 
-abbrev n : tie.After-sine → ℤ
-n c = since (c .before .before .before .before .args .x)
+abbrev n : tie.After-sine → ℕ
+n c = c .before .before .before .before .args .x
 
 abbrev angle : tie.After-sine → ℕ
-angle c = ourAngle (momentOf (n c))
+angle c = ourAngle (n c)
 
 -- what the machine reads back of the amplitudes, the cosine and the sine
 xc-is : (c : tie.After-sine) → toZ w64 (ofZ w64 (c .before .before .before .amplitudes-at .result .xc)) ≡ ourXC (place c) (n c)
@@ -43,7 +41,7 @@ xs-is c = let f : SFits w64 (c .before .before .before .amplitudes-at .result .x
 angle-is : (c : tie.After-sine) → c .before .before .angle-at .result % 2 ^ 41 ≡ angle c
 angle-is c =
     let x = c .before .before .before .before .args .x in
-    N.mod-eq-of-lt (N.lt-of-le-of-lt (N.le-of-eq (c .before .before .angle-at .ensures)) (angle-less x)) ∙ c .before .before .angle-at .ensures ∙ ap ourAngle (sym (moment-back x))
+    N.mod-eq-of-lt (N.lt-of-le-of-lt (N.le-of-eq (c .before .before .angle-at .ensures)) (angle-less x)) ∙ c .before .before .angle-at .ensures
 
 cos-is : (c : tie.After-sine) → toZ w64 (ofZ w64 (c .before .cosine .result)) ≡ ourCosine (angle c)
 cos-is c = let f : SFits w64 (c .before .cosine .result) = search needs in toZ-ofZ f ∙ c .before .cosine .ensures ∙ ap ourCosine (angle-is c)

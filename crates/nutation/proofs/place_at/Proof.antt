@@ -6,7 +6,8 @@ use native.Mathlib.Omega.{arith}
 use lib.ListN.{length}
 use Rattle.nutation.specs.declared.Place.the-variants.{End, Between}
 use Rattle.nutation.specs.Table.{rowAt}
-use Rattle.nutation.specs.Inner.{dateMoment, rowsOf}
+use Rattle.nutation.specs.Exact.{rowMoment}
+use Rattle.nutation.specs.Inner.{rowsOf}
 use Rattle.nutation.proofs.Accepted.{rows-length}
 use Rattle.nutation.proofs.Places.{place-first, place-last, place-between}
 use borrow.Author.Needs.{needs}
@@ -16,11 +17,11 @@ use Rattle.nutation.proofs.place_at.Tie as tie
 two : (c : tie.Start) → 2 ≤ length (c .args .t .now)
 two c = omega (arith, c .pre .accepted .two, rows-length (c .args .t .now))
 
-after-first : (c : tie.Else1) → dateMoment (rowAt (rowsOf (c .before .before .before .args .t .now)) 0) < c .before .before .before .args .x
-after-first c = lt-of-le-of-lt (le-of-eq (sym (c .before .date-of .ensures ∙ ap dateMoment (c .before .before .row-at .ensures .0)))) (c .if1 .left)
+after-first : (c : tie.Else1) → rowMoment (rowAt (rowsOf (c .before .before .before .args .t .now)) 0) < c .before .before .before .args .x
+after-first c = lt-of-le-of-lt (le-of-eq (sym (c .before .date-of .ensures ∙ ap rowMoment (c .before .before .row-at .ensures .0)))) (c .if1 .left)
 
-before-last : (c : tie.Else2) → let s = c .before .before .before .before .before .before in s .args .x < dateMoment (rowAt (rowsOf (s .args .t .now)) (length (s .args .t .now) - 1))
-before-last c = lt-of-lt-of-le (c .if2 .left) (le-of-eq (c .before .date-of2 .ensures ∙ ap dateMoment (c .before .before .row-at2 .ensures .0)))
+before-last : (c : tie.Else2) → let s = c .before .before .before .before .before .before in s .args .x < rowMoment (rowAt (rowsOf (s .args .t .now)) (length (s .args .t .now) - 1))
+before-last c = lt-of-lt-of-le (c .if2 .left) (le-of-eq (c .before .date-of2 .ensures ∙ ap rowMoment (c .before .before .row-at2 .ensures .0)))
 
 row-at-requires : tie.Need-row-at-requires
 row-at-requires c κs = (omega (arith, two c), c .pre)
@@ -32,7 +33,7 @@ returns : tie.Need-returns
 returns c =
     let s = c .before .before .before in
     ap End (c .before .before .row-at .ensures .0)
-    ∙ sym (place-first (rowsOf (s .args .t .now)) (s .args .x) (le-trans (c .if1 .taken) (le-of-eq (c .before .date-of .ensures ∙ ap dateMoment (c .before .before .row-at .ensures .0)))))
+    ∙ sym (place-first (rowsOf (s .args .t .now)) (s .args .x) (le-trans (c .if1 .taken) (le-of-eq (c .before .date-of .ensures ∙ ap rowMoment (c .before .before .row-at .ensures .0)))))
 
 sub-row-at : tie.Need-sub-row-at
 sub-row-at c = omega (arith, two (c .before .before .before))
@@ -48,7 +49,7 @@ returns-2 c =
     let s = c .before .before .before .before .before .before in
     ap End (c .before .before .row-at2 .ensures .0)
     ∙ sym (place-last (rowsOf (s .args .t .now)) (s .args .x) (length (s .args .t .now) - 1) (ap (λ n. n - 1) (rows-length (s .args .t .now))) (after-first (c .before .before .before))
-    (le-trans (le-of-eq (sym (c .before .date-of2 .ensures ∙ ap dateMoment (c .before .before .row-at2 .ensures .0)))) (c .if2 .taken)))
+    (le-trans (le-of-eq (sym (c .before .date-of2 .ensures ∙ ap rowMoment (c .before .before .row-at2 .ensures .0)))) (c .if2 .taken)))
 
 lookup-requires : tie.Need-lookup-requires
 lookup-requires c κs = (c .before .before .before .before .before .before .pre, le-of-lt (after-first (c .before .before .before)), before-last c)

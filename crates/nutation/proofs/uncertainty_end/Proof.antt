@@ -3,8 +3,7 @@ use mathlib.Core.Path.{_≡_, sym, _∙_, ap}
 use Prim.Native.Nat.{ℕ, _+_, _*_}
 use Rattle.instants.specs.Limits.{dayMicros}
 use Rattle.algebra.specs.Integers.{dist}
-use Rattle.nutation.specs.Exact.{roundUp}
-use Rattle.nutation.specs.Inner.{dateMoment}
+use Rattle.nutation.specs.Exact.{rowMoment, roundUp}
 use Rattle.nutation.proofs.Rounding.{end-is}
 use borrow.Author.Needs.{needs}
 use Rattle.nutation.proofs.uncertainty_end.Statement.{statement}
@@ -31,7 +30,7 @@ add-result c = search needs
 returns : tie.Need-returns
 returns c =
     let s = c .before .before .before .before in
-    let q : c .before .apart .result ≡ dist (s .args .x) (dateMoment (s .args .r)) = c .before .apart .ensures ∙ ap (λ (k : ℕ). dist (s .args .x) k) (c .before .before .date-of .ensures) in
+    let q : c .before .apart .result ≡ dist (s .args .x) (rowMoment (s .args .r)) = c .before .apart .ensures ∙ ap (λ (k : ℕ). dist (s .args .x) k) (c .before .before .date-of .ensures) in
     ap (λ (k : ℕ). 20 * s .args .r .uncertainty + k) (c .round-up .ensures ∙ ap (λ (k : ℕ). roundUp (265 * k) dayMicros) q) ∙ sym (end-is (s .args .r) (s .args .x))
 
 pub uncertainty-end-spec : {M : Type 1} → statement M
