@@ -5,4 +5,3 @@ pub mod Rounding
 pub mod Interpolation
 pub mod Distance
 pub mod Promises
-pub mod Same
