@@ -15,7 +15,9 @@ const LAST_DAY: i64 = 88433;
 pub const DAY_MICROS: u64 = 86400000000;
 
 // A day's index counts from 1600-01-01, whose day number is minus this.
-const INDEX_OFFSET: i64 = 94553;
+pub const INDEX_OFFSET: u64 = 94553;
+
+const SIGNED_OFFSET: i64 = INDEX_OFFSET as i64;
 
 // An instant: a day number (Modified Julian Date) and the microseconds of that day.
 pub struct Instant {
@@ -45,7 +47,7 @@ pub fn day_index(day: i64) -> IndexAnswer
     if LAST_DAY < day {
         return IndexAnswer::NoIndex;
     }
-    IndexAnswer::AtIndex((day + INDEX_OFFSET) as u64)
+    IndexAnswer::AtIndex((day + SIGNED_OFFSET) as u64)
 }
 
 // The day number of an index.
@@ -53,7 +55,7 @@ pub fn day_at_index(n: u64) -> i64
     requires { ⌜ n < 1000000 ⌝ }
     ensures { λ r. ⌜ r ≡ dayAtIndex n ⌝ }
 {
-    (n as i64) - INDEX_OFFSET
+    (n as i64) - SIGNED_OFFSET
 }
 
 // Whether an instant is accepted: the index of its day, or refusal 8 or 9. Every service asks here.

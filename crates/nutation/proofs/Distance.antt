@@ -24,14 +24,15 @@ use Rattle.sine.proofs.Distance.{sineDistance, SineNear, sine-near, cosine-near
 use Rattle.instants.specs.Moments.{century, latest, since}
 use Rattle.arguments.specs.Ours.{high}
 use Rattle.arguments.proofs.Floor.{high-near}
-use Rattle.nutation.specs.declared.Row.{Row}
-use Rattle.nutation.specs.declared.Place.{Place}
-use Rattle.nutation.specs.Table.{largest, AcceptedRow, AcceptedTable}
-use Rattle.nutation.specs.Exact.{place, parts, value, XC, XS, YC, YS, angleParts, exactAngle, exactOffset}
+use Rattle.rows.specs.declared.Row.{Row}
+use Rattle.rows.specs.declared.Place.{Place}
+use Rattle.rows.specs.Table.{largest, AcceptedRow, AcceptedTable}
+use Rattle.rows.specs.Places.{place}
+use Rattle.nutation.specs.Exact.{parts, value, XC, XS, YC, YS, angleParts, exactAngle, exactOffset}
 use Rattle.nutation.specs.Ours.{startAngle, angleRate, ourAngle, amplitude, ourXC, ourXS, ourYC, ourYS, offset, ourOffset, offsetsAt, ourOffsets}
 use Rattle.nutation.specs.Claims.{distance, Within, OffsetsNear}
-use Rattle.nutation.specs.Inner.{Placed}
-use Rattle.nutation.proofs.Places.{placed}
+use Rattle.rows.specs.Inner.{Placed}
+use Rattle.rows.proofs.Places.{placed}
 use Rattle.nutation.proofs.Sizes.{gone-le, angle-less}
 use Rattle.nutation.proofs.Interpolation.{parts-positive, amplitude-near, value-small}
 

@@ -12,13 +12,14 @@ use Rattle.algebra.specs.Near.{Near}
 use Rattle.algebra.proofs.Ring.{end, _▸_, ring, quote}
 use Rattle.algebra.proofs.Near.{near-as, near-trans, near-add, near-refl, near-scale, near-unscale}
 use Rattle.algebra.proofs.Floor.{near-floor, near-shr}
-use Rattle.nutation.specs.declared.Row.{Row}
-use Rattle.nutation.specs.declared.Place.{Place}
-use Rattle.nutation.specs.declared.Place.the-variants.{End, Between}
-use Rattle.nutation.specs.Table.{largest, AcceptedRow}
-use Rattle.nutation.specs.Exact.{rowMoment, span, parts, value}
+use Rattle.rows.specs.declared.Row.{Row}
+use Rattle.rows.specs.declared.Place.{Place}
+use Rattle.rows.specs.declared.Place.the-variants.{End, Between}
+use Rattle.rows.specs.Table.{largest, AcceptedRow}
+use Rattle.rows.specs.Places.{rowMoment}
+use Rattle.nutation.specs.Exact.{span, parts, value}
 use Rattle.nutation.specs.Ours.{factor, mixed, amplitude}
-use Rattle.nutation.specs.Inner.{Placed}
+use Rattle.rows.specs.Inner.{Placed}
 use Rattle.nutation.proofs.Sizes.{inside-span, after-less, between-small, minus-small}
 
 mixed-near : (W off : ℕ) (c d : ℤ) → 0 < W → natAbs c ≤ largest → natAbs d ≤ largest

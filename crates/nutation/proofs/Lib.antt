@@ -1,5 +1,3 @@
-pub mod Accepted
-pub mod Places
 pub mod Sizes
 pub mod Rounding
 pub mod Interpolation

@@ -16,14 +16,16 @@ use Rattle.algebra.proofs.Near.{near-as, near-sym, near-trans, near-unscale}
 use Rattle.sine.specs.Exact.{wholeTurn}
 use Rattle.sine.specs.Ours.{alternating, sineQuarter, quarterTurn, ourSine, ourCosine}
 use Rattle.instants.specs.Moments.{momentOf}
-use Rattle.nutation.specs.declared.Row.{Row}
+use Rattle.rows.specs.declared.Row.{Row}
 use Rattle.nutation.specs.declared.Offsets.{Offsets}
 use Rattle.nutation.specs.declared.NutationAnswer.the-variants.{Nutation, NoNutation}
-use Rattle.nutation.specs.Table.{AcceptedTable, builtIn}
-use Rattle.nutation.specs.Exact.{started, place, span, exactX, exactY, exactDen}
+use Rattle.rows.specs.Table.{AcceptedTable}
+use Rattle.rows.specs.BuiltIn.{builtIn}
+use Rattle.rows.specs.Places.{started, place}
+use Rattle.nutation.specs.Exact.{span, exactX, exactY, exactDen}
 use Rattle.nutation.specs.Ours.{ourAngle, factor, mixed, amplitude, offset, offsetsAt, ourOffsets, nutationWith, nutationOf}
 use Rattle.nutation.specs.Claims.{distance, Within, OffsetsNear}
-use Rattle.nutation.proofs.Accepted.{builtIn-accepted}
+use Rattle.rows.proofs.Accepted.{builtIn-accepted}
 use Rattle.nutation.proofs.Distance.{offsets-near}
 
 -- ---- accepted instants

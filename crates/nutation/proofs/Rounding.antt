@@ -9,10 +9,12 @@ use lib.IntN.{ℤ, pos, _+ℤ_, _-ℤ_, _*ℤ_, natAbs}
 use Rattle.instants.specs.Limits.{dayMicros}
 use Rattle.algebra.specs.Integers.{dist}
 use Rattle.algebra.proofs.Ring.{end, _▸_, _▹_, ring, quote, ringN, quoteN}
-use Rattle.nutation.specs.declared.Row.{Row}
-use Rattle.nutation.specs.declared.Place.the-variants.{End, Between}
-use Rattle.nutation.specs.Exact.{rowMoment, value, uValue, uParts, roundUp, uncertaintyAt}
-use Rattle.nutation.specs.Inner.{Inside, twiceBetween}
+use Rattle.rows.specs.declared.Row.{Row}
+use Rattle.rows.specs.declared.Place.the-variants.{End, Between}
+use Rattle.rows.specs.Places.{rowMoment}
+use Rattle.nutation.specs.Exact.{value, uValue, uParts, roundUp, uncertaintyAt}
+use Rattle.rows.specs.Inner.{Inside}
+use Rattle.nutation.specs.Inner.{twiceBetween}
 use Rattle.nutation.proofs.Sizes.{inside-span, after-less}
 
 -- ---- at or outside an end

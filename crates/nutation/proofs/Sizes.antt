@@ -17,14 +17,16 @@ use Rattle.algebra.proofs.Near.{abs-sum, abs-prod}
 use Rattle.algebra.proofs.Fits.{small-fits, zero-less}
 use Rattle.arguments.specs.Ours.{high}
 use Rattle.instants.specs.Moments.{latest}
-use Rattle.nutation.specs.declared.Row.{Row}
-use Rattle.nutation.specs.declared.Place.{Place}
-use Rattle.nutation.specs.declared.Place.the-variants.{End, Between}
-use Rattle.nutation.specs.Table.{largest, AcceptedRow}
-use Rattle.nutation.specs.Exact.{rowMoment, span}
+use Rattle.rows.specs.declared.Row.{Row}
+use Rattle.rows.specs.declared.Place.{Place}
+use Rattle.rows.specs.declared.Place.the-variants.{End, Between}
+use Rattle.rows.specs.Table.{largest, AcceptedRow}
+use Rattle.rows.specs.Places.{rowMoment}
+use Rattle.nutation.specs.Exact.{span}
 use Rattle.nutation.specs.Ours.{startAngle, angleRate, ourAngle, factor, mixed, amplitude, offset}
-use Rattle.nutation.specs.Inner.{Inside, Placed, MixBounds, widest, OffsetBounds}
-use Rattle.nutation.proofs.Places.{days-apart}
+use Rattle.rows.specs.Inner.{Inside, Placed}
+use Rattle.nutation.specs.Inner.{MixBounds, widest, OffsetBounds}
+use Rattle.rows.proofs.Places.{days-apart}
 
 -- ---- between two rows
 

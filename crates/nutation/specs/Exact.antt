@@ -1,38 +1,17 @@
 -- The exact offsets of the free core nutation and their uncertainty, of any table, at the moment x. A number that need not be whole is a numerator
 -- over a denominator.
 -- Assumes nothing.
-use mathlib.Core.Bool.{cond}
-use mathlib.Core.List.{List, [], _∷_}
-use Prim.Native.Nat.{ℕ, suc, _+_, _*_, _-_, _/_}
+use mathlib.Core.List.{List}
+use Prim.Native.Nat.{ℕ, _+_, _*_, _-_, _/_}
 use lib.IntN.{ℤ, pos, negℤ, _+ℤ_, _-ℤ_, _*ℤ_, natAbs}
-use lib.ListN.{length}
-use lib.Dec.{leb}
-use Rattle.instants.specs.Limits.{dayMicros, indexOffset}
+use Rattle.instants.specs.Limits.{dayMicros}
 use Rattle.algebra.specs.Integers.{+_, remainder, dist}
 use Rattle.sine.specs.Exact.{sineDen, exactSine, exactCosine}
-use Rattle.instants.specs.Moments.{moment, since}
-use Rattle.nutation.specs.declared.Row.{Row}
-use Rattle.nutation.specs.declared.Place.{Place}
-use Rattle.nutation.specs.declared.Place.the-variants.{End, Between}
-use Rattle.nutation.specs.Table.{rowAt}
-
--- ---- where x is among the rows
-
--- a row's date: 0 h of its day
-abbrev pub rowMoment : Row → ℕ
-rowMoment r = moment (r .day + indexOffset) 0
-
--- how many rows, from the first on, are dated at or before x
-unfoldable pub started : List Row → ℕ → ℕ
-started [] x = 0
-started (r ∷ rs) x = cond (leb (rowMoment r) x) (suc (started rs x)) 0
-
--- at or before the first row's date, at or after the last row's, or else between the last row dated at or before x and the next
-unfoldable pub place : List Row → ℕ → Place
-place rows x =
-    cond (leb x (rowMoment (rowAt rows 0))) (End (rowAt rows 0))
-    (cond (leb (rowMoment (rowAt rows (length rows - 1))) x) (End (rowAt rows (length rows - 1)))
-    (Between (rowAt rows (started rows x - 1)) (rowAt rows (started rows x))))
+use Rattle.instants.specs.Moments.{since}
+use Rattle.rows.specs.declared.Row.{Row}
+use Rattle.rows.specs.declared.Place.{Place}
+use Rattle.rows.specs.declared.Place.the-variants.{End, Between}
+use Rattle.rows.specs.Places.{rowMoment, place}
 
 -- ---- a number f of the rows at x, interpolated straight between two rows: `value` over `parts`
 

@@ -11,14 +11,15 @@ use Rattle.algebra.specs.Integers.{+_}
 use Rattle.sine.specs.Ours.{ourSine, ourCosine}
 use Rattle.instants.specs.Moments.{momentOf}
 use Rattle.arguments.specs.Ours.{high}
-use Rattle.nutation.specs.declared.Row.{Row}
-use Rattle.nutation.specs.declared.Place.{Place}
-use Rattle.nutation.specs.declared.Place.the-variants.{End, Between}
+use Rattle.rows.specs.declared.Row.{Row}
+use Rattle.rows.specs.declared.Place.{Place}
+use Rattle.rows.specs.declared.Place.the-variants.{End, Between}
 use Rattle.nutation.specs.declared.Offsets.{Offsets}
 use Rattle.nutation.specs.declared.NutationAnswer.{NutationAnswer}
 use Rattle.nutation.specs.declared.NutationAnswer.the-variants.{Nutation, NoNutation}
-use Rattle.nutation.specs.Table.{builtIn}
-use Rattle.nutation.specs.Exact.{rowMoment, span, place, uncertaintyAt}
+use Rattle.rows.specs.BuiltIn.{builtIn}
+use Rattle.rows.specs.Places.{rowMoment, place}
+use Rattle.nutation.specs.Exact.{span, uncertaintyAt}
 
 -- ---- the angle
 

@@ -12,7 +12,7 @@ use Rattle.zonal.specs.declared.Corrections.{Corrections}
 use Rattle.record.specs.Format.{recordLength}
 use Rattle.run.specs.Run.{runRefusal, runWritten}
 use Rattle.run.specs.ReadBack.{ReadsAt}
-use Rattle.nutation.specs.Table.{builtIn}
+use Rattle.rows.specs.BuiltIn.{builtIn}
 use Rattle.nutation.specs.Ours.{nutationOf}
 use Rattle.nutation.specs.Exact.{exactX, exactY, exactDen}
 use Rattle.nutation.specs.Claims as nutation

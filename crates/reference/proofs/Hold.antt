@@ -6,8 +6,9 @@ use Rattle.clock.specs.Words.{splitOf, joinOf}
 use Rattle.bigendian.specs.Numbers.{wordSum}
 use Rattle.record.specs.Format.{recordBytes}
 use Rattle.record.specs.Records.{formRefusal, readOf}
-use Rattle.nutation.specs.Table.{builtIn}
-use Rattle.nutation.specs.Exact.{started, place, span, value, uValue, uParts, uncertaintyAt}
+use Rattle.rows.specs.BuiltIn.{builtIn}
+use Rattle.rows.specs.Places.{started, place}
+use Rattle.nutation.specs.Exact.{span, value, uValue, uParts, uncertaintyAt}
 use Rattle.nutation.specs.Ours.{offsetsAt, nutationOf}
 use Rattle.reference.specs.Rows.{Says, EveryRow, rows}
 

@@ -1,4 +1,4 @@
--- `nutation::row_at` meets its contract: the days and the uncertainties of an accepted table are natural numbers, and each number is itself as an i64. Assumes nothing.
+-- `rows::row_at` meets its contract: the days and the uncertainties of an accepted table are natural numbers, and each number is itself as an i64. Assumes nothing.
 use mathlib.Core.Path.{refl}
 use mathlib.Core.List.{[]}
 use native.Mathlib.Omega.{arith}
@@ -7,10 +7,10 @@ use lib.ListN.{getD}
 use mir.Syntax.{w64}
 use mir.Val.{SFits}
 use mir.Facts.{toZ-ofZ}
-use Rattle.nutation.proofs.Accepted.{lent-numbers, lent-row}
+use Rattle.rows.proofs.Accepted.{lent-numbers, lent-row}
 use borrow.Author.Needs.{needs}
-use Rattle.nutation.proofs.row_at.Statement.{statement}
-use Rattle.nutation.proofs.row_at.Tie as tie
+use Rattle.rows.proofs.row_at.Statement.{statement}
+use Rattle.rows.proofs.row_at.Tie as tie
 
 mul-t3 : tie.Need-mul-t3
 mul-t3 c = search needs
@@ -60,7 +60,7 @@ cast-t24 c =
     let s = c .before .before .before .before in
     let f : SFits w64 (getD (getD (s .args .t .now) (s .args .i) []) 3 (pos 0)) = search needs in
     let r = lent-row (s .args .t .now) (s .pre .1) (s .args .i) (s .pre .0) in
-    rw (toZ-ofZ f, lent-numbers (s .args .t .now) (s .pre .1) (s .args .i) (s .pre .0)) (tt, record { fits = omega (arith, r .small) })
+    rw (toZ-ofZ f, lent-numbers (s .args .t .now) (s .pre .1) (s .args .i) (s .pre .0)) (tt, record { fits = omega (arith, r .uncertainty-small) })
 
 returns : tie.Need-returns
 returns c =

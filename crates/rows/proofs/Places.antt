@@ -11,14 +11,14 @@ use lib.Dec.{T, leb, ltb, leb→le, ltb→lt, nleb→lt, nltb→le, not-T}
 use lib.ListN.{length}
 use borrow.Author.Tests.{le-leb, lt-leb}
 use Rattle.algebra.proofs.Tests.{cond-case}
-use Rattle.nutation.specs.declared.Row.{Row}
-use Rattle.nutation.specs.declared.Place.{Place}
-use Rattle.nutation.specs.declared.Place.the-variants.{End, Between}
-use Rattle.nutation.specs.Table.{rowAt, AcceptedTable}
-use Rattle.nutation.specs.Exact.{rowMoment, started, place}
+use Rattle.rows.specs.declared.Row.{Row}
+use Rattle.rows.specs.declared.Place.{Place}
+use Rattle.rows.specs.declared.Place.the-variants.{End, Between}
+use Rattle.rows.specs.Table.{rowAt, AcceptedTable}
+use Rattle.rows.specs.Places.{rowMoment, started, place}
 use Rattle.instants.specs.Moments.{moment}
 use Rattle.instants.specs.Limits.{dayMicros, indexOffset}
-use Rattle.nutation.specs.Inner.{Bracket, Inside, Placed}
+use Rattle.rows.specs.Inner.{Bracket, Inside, Placed}
 
 -- ---- how many rows are dated at or before x
 
@@ -164,14 +164,14 @@ module _ (rows : List Row) (x : ℕ) where
   unfolding place
   place-first h = simp (le-leb x (rowMoment (rowAt rows 0)) h)
 
-  pub place-last : (n : ℕ) → length rows - 1 ≡ n → rowMoment (rowAt rows 0) < x → rowMoment (rowAt rows n) ≤ x → place rows x ≡ End (rowAt rows n)
+  pub place-last : rowMoment (rowAt rows 0) < x → rowMoment (rowAt rows (length rows - 1)) ≤ x → place rows x ≡ End (rowAt rows (length rows - 1))
   unfolding place
-  place-last n l h k = simp (lt-leb x (rowMoment (rowAt rows 0)) h, l, le-leb (rowMoment (rowAt rows n)) x k)
+  place-last h k = simp (lt-leb x (rowMoment (rowAt rows 0)) h, le-leb (rowMoment (rowAt rows (length rows - 1))) x k)
 
-  pub place-between : AcceptedTable rows → (n i : ℕ) → length rows - 1 ≡ n → rowMoment (rowAt rows 0) < x → x < rowMoment (rowAt rows n) → Bracket rows x i
+  pub place-between : AcceptedTable rows → (i : ℕ) → rowMoment (rowAt rows 0) < x → x < rowMoment (rowAt rows (length rows - 1)) → Bracket rows x i
       → place rows x ≡ Between (rowAt rows i) (rowAt rows (i + 1))
   unfolding place
-  place-between a n i l h k b = simp (lt-leb x (rowMoment (rowAt rows 0)) h, l, lt-leb (rowMoment (rowAt rows n)) x k, bracket-is rows a x i b, less)
+  place-between a i h k b = simp (lt-leb x (rowMoment (rowAt rows 0)) h, lt-leb (rowMoment (rowAt rows (length rows - 1))) x k, bracket-is rows a x i b, less)
     where
       less : i + 1 - 1 ≡ i
       less = omega arith
