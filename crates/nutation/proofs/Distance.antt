@@ -1,8 +1,11 @@
--- THE DISTANCE: our offsets against the exact ones, with any accepted table, on every day from 1600 to 2400.
+-- THE DISTANCE: our offsets against the exact ones, with any accepted table, at every moment of the days covered.
+-- An offset is ten times a difference of two products, amplitude times sine or cosine. In each product the amplitude's error (3 units of 2^-10, proved in
+-- Interpolation) counts times a sine of at most 2^32, and the sine's error (its own and that of the angle, 2 units of 2^-41 turn) times an amplitude of at
+-- most 1000 microarcseconds. Both products and the rounding, half a nanoarcsecond, come to at most 2.
 -- Assumes nothing.
 use mathlib.Core.Path.{_≡_, refl, _∙_, ap}
 use mathlib.Core.List.{List}
-use Prim.Native.Nat.{ℕ, _+_, _*_, _-_, _^_, _≤_, _<_}
+use Prim.Native.Nat.{ℕ, _+_, _*_, _-_, _/_, _^_, _≤_, _<_}
 use native.Mathlib.Nat as N
 use native.Mathlib.Nat.{le-trans, le-of-eq}
 use native.Mathlib.Omega.{arith}
@@ -34,9 +37,10 @@ use Rattle.nutation.specs.Claims.{distance, Within, OffsetsNear}
 use Rattle.rows.specs.Inner.{Placed}
 use Rattle.rows.proofs.Places.{placed}
 use Rattle.nutation.proofs.Sizes.{gone-le, angle-less}
+use Rattle.instants.specs.Limits.{dayMicros}
 use Rattle.nutation.proofs.Interpolation.{parts-positive, amplitude-near, value-small}
 
--- ---- the angle: within 2 units of 2^-41 turn, but for whole turns
+-- ---- the angle: within 2 units of 2^-41 turn, but for whole turns. The start and the rate are to nearest, and the rate's product is cut.
 
 abbrev angleDistance : ℕ
 angleDistance = 2
@@ -126,6 +130,7 @@ module _ (W D : ℕ) where
 -- ---- both offsets, at a place of an accepted table
 
 module _ (p : Place) (x : ℕ) (at : Placed p x) (h : x ≤ latest) where
+  -- the denominator of the exact sine and cosine
   D : ℕ
   D = sineDen angleParts
 
@@ -138,11 +143,11 @@ module _ (p : Place) (x : ℕ) (at : Placed p x) (h : x ≤ latest) where
 
   cos-near : SineNear (ourCosine (ourAngle x)) (exactCosine angleParts (exactAngle (since x))) D angleDistance
   unfolding D
-  cos-near = cosine-near (43021 * 21600000000) (exactAngle (since x)) (ourAngle x) angleDistance (lit≤ tt) below (angle-less x) (angle-near x h)
+  cos-near = cosine-near (43021 * (dayMicros / 4)) (exactAngle (since x)) (ourAngle x) angleDistance (lit≤ tt) below (angle-less x) (angle-near x h)
 
   sin-near : SineNear (ourSine (ourAngle x)) (exactSine angleParts (exactAngle (since x))) D angleDistance
   unfolding D
-  sin-near = sine-near (43021 * 21600000000) (exactAngle (since x)) (ourAngle x) angleDistance (lit≤ tt) below (angle-less x) (angle-near x h)
+  sin-near = sine-near (43021 * (dayMicros / 4)) (exactAngle (since x)) (ourAngle x) angleDistance (lit≤ tt) below (angle-less x) (angle-near x h)
 
   x-near : Within (ourOffset (ourXC p x) (ourXS p x) x) (exactOffset (XC p x) (XS p x) x) (parts p * D)
   unfolding exactOffset D

@@ -1,4 +1,5 @@
--- An amplitude: ours is within 3 units of 2^-10 of the exact one. The cut to ten places and the factor's 27 make the distance.
+-- An amplitude: ours is within 3 units of 2^-10 of the exact one. The cut from 27 binary places to 10 loses less than one unit; the factor, cut to 27
+-- places, less than 2^-27 times the difference of two rows, of at most 2000 microarcseconds, which is below two units.
 -- Assumes nothing.
 use mathlib.Core.Path.{_≡_, refl, sym}
 use Prim.Native.Nat.{ℕ, _+_, _*_, _-_, _/_, _^_, _≤_, _<_, zero-le}

@@ -1,4 +1,5 @@
--- The uncertainty, exact: rounded up in steps that 64 bits hold.
+-- The uncertainty, exact: rounded up in two steps that 64 bits hold. (a e + b) / (p e), rounded up, is (a + b / e) / p, where b / e is rounded up first and
+-- then the whole: e is the microseconds of a day, a and p count whole days, and b is the rest.
 -- Assumes nothing.
 use mathlib.Core.Path.{_≡_, sym, _∙_, ap, ap₂}
 use Prim.Native.Nat.{ℕ, _+_, _*_, _-_, _/_, _%_, _≤_, _<_}
@@ -53,6 +54,8 @@ between-is a b x h =
 
     go : (w n : ℕ) → n ≤ w → roundUp (2 * (10 * natAbs (pos u *ℤ pos w +ℤ (pos v -ℤ pos u) *ℤ pos n))) w ≡ twiceBetween u v w n
     go w n k = ap (λ (z : ℤ). roundUp (2 * (10 * natAbs z)) w) (between-natural u v w n k) ∙ ap (λ (k : ℕ). roundUp k w) (twice (u * (w - n) + v * n))
+
+-- ---- rounding up, by what it is between
 
 round-up-low : (n d : ℕ) → 0 < d → n ≤ roundUp n d * d
 round-up-low n d h = omega (arith, N.lt-div-mul-add {a = n + (d - 1)} h)

@@ -9,7 +9,7 @@ use Rattle.rows.specs.declared.Row.{Row}
 use Rattle.nutation.specs.declared.Offsets.{Offsets}
 use Rattle.nutation.specs.Exact.{exactX, exactY, exactDen, exactUncertainty}
 
--- in nanoarcseconds
+-- the distance that is promised, in nanoarcseconds
 abbrev pub distance : ℕ
 distance = 2
 

@@ -2,15 +2,16 @@
 -- Assumes nothing.
 use Prim.Native.Nat.{ℕ, _+_, _*_, _-_, _^_, _≤_, _<_}
 use lib.IntN.{ℤ, natAbs}
-use Rattle.rows.specs.declared.Place.{Place}
-use Rattle.nutation.specs.declared.Amplitudes.{Amplitudes}
-use Rattle.rows.specs.Table.{largest, lastRowDay}
-use Rattle.nutation.specs.Exact.{roundUp}
 use Rattle.instants.specs.Limits.{dayMicros}
+use Rattle.rows.specs.declared.Place.{Place}
+use Rattle.rows.specs.Table.{lastRowDay, largest}
+use Rattle.nutation.specs.declared.Amplitudes.{Amplitudes}
+use Rattle.nutation.specs.Exact.{roundUp}
 use Rattle.nutation.specs.Ours.{ourXC, ourXS}
 
 -- ---- the steps to the offsets
 
+-- both amplitudes at a place
 unfoldable pub amplitudes : Place → ℕ → Amplitudes
 amplitudes p x = record { xc = ourXC p x; xs = ourXS p x }
 

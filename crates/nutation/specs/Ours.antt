@@ -5,23 +5,23 @@ use mathlib.Core.List.{List}
 use Prim.Native.Nat.{ℕ, _*_, _-_, _/_, _%_, _^_}
 use lib.IntN.{ℤ, pos, negℤ, _+ℤ_, _-ℤ_, _*ℤ_}
 use lib.Signed.{shrZ}
+use Rattle.algebra.specs.Integers.{+_}
 use Rattle.instants.specs.Refusals.{refusedOr}
 use Rattle.instants.specs.Instants.{instantCases}
-use Rattle.algebra.specs.Integers.{+_}
-use Rattle.sine.specs.Ours.{ourSine, ourCosine}
 use Rattle.instants.specs.Moments.{momentOf}
+use Rattle.sine.specs.Ours.{ourSine, ourCosine}
 use Rattle.arguments.specs.Ours.{high}
 use Rattle.rows.specs.declared.Row.{Row}
 use Rattle.rows.specs.declared.Place.{Place}
 use Rattle.rows.specs.declared.Place.the-variants.{End, Between}
+use Rattle.rows.specs.BuiltIn.{builtIn}
+use Rattle.rows.specs.Places.{rowMoment, place}
 use Rattle.nutation.specs.declared.Offsets.{Offsets}
 use Rattle.nutation.specs.declared.NutationAnswer.{NutationAnswer}
 use Rattle.nutation.specs.declared.NutationAnswer.the-variants.{Nutation, NoNutation}
-use Rattle.rows.specs.BuiltIn.{builtIn}
-use Rattle.rows.specs.Places.{rowMoment, place}
 use Rattle.nutation.specs.Exact.{span, uncertaintyAt}
 
--- ---- the angle
+-- ---- the angle, of x
 
 -- 2^41 * 18262500 / 43021, the angle at x = 0, and 400 turns more so that nothing is negative
 abbrev pub startAngle : ℕ
@@ -31,6 +31,7 @@ startAngle = 1813099044544744
 abbrev pub angleRate : ℕ
 angleRate = 1091328007965299807
 
+-- the start less what has gone back, whole turns removed
 unfoldable pub ourAngle : ℕ → ℕ
 ourAngle x = (startAngle - high x angleRate) % 2 ^ 41
 
@@ -44,10 +45,12 @@ factor a b x = (x - rowMoment a) * 2 ^ 27 / span a b
 unfoldable pub mixed : ℤ → ℤ → ℕ → ℤ
 mixed c d l = shrZ (c *ℤ pos (2 ^ 27) +ℤ (d -ℤ c) *ℤ pos l) (2 ^ 17)
 
+-- a number f of the rows at x
 unfoldable pub amplitude : (Row → ℤ) → Place → ℕ → ℤ
 amplitude f (End r) x = f r *ℤ pos (2 ^ 10)
 amplitude f (Between a b) x = mixed (f a) (f b) (factor a b x)
 
+-- the four of them
 abbrev pub ourXC : Place → ℕ → ℤ
 ourXC p x = amplitude (λ r. r .xc) p x
 
@@ -62,9 +65,11 @@ ourYS p x = negℤ (ourXC p x)
 
 -- ---- the offsets: ten times C cos - S sin
 
+-- of two amplitudes, a cosine and a sine
 unfoldable pub offset : ℤ → ℤ → ℤ → ℤ → ℤ
 offset c s cos sin = shrZ (+ 10 *ℤ (c *ℤ cos -ℤ s *ℤ sin) +ℤ pos (2 ^ 40)) (2 ^ 41)
 
+-- at the angle of x
 abbrev pub ourOffset : ℤ → ℤ → ℕ → ℤ
 ourOffset c s x = offset c s (ourCosine (ourAngle x)) (ourSine (ourAngle x))
 
@@ -72,14 +77,17 @@ ourOffset c s x = offset c s (ourCosine (ourAngle x)) (ourSine (ourAngle x))
 unfoldable pub offsetsAt : Place → ℕ → Offsets
 offsetsAt p x = record { x = ourOffset (ourXC p x) (ourXS p x) x; y = ourOffset (ourYC p x) (ourYS p x) x; uncertainty = uncertaintyAt p x }
 
+-- with the rows of a table
 abbrev pub ourOffsets : List Row → ℕ → Offsets
 ourOffsets rows x = offsetsAt (place rows x) x
 
 -- ---- the answer at an instant
 
+-- refused by 8 or 9, or the offsets at the instant's moment
 abbrev pub nutationWith : List Row → ℤ → ℕ → NutationAnswer
 nutationWith rows d m = refusedOr NoNutation (instantCases d m) (Nutation (ourOffsets rows (momentOf d m)))
 
+-- the service: with the built-in rows
 unfoldable pub nutationOf : ℤ → ℕ → NutationAnswer
 nutationOf d m = nutationWith builtIn d m
 

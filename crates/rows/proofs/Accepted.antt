@@ -14,7 +14,7 @@ use Rattle.rows.specs.Table.{row, rowAt, firstRowDay, lastRowDay, larges
 use Rattle.rows.specs.BuiltIn.{builtIn}
 use Rattle.rows.specs.Inner.{numbersOf, numbers, rowsOf, Lent}
 
--- ---- the test
+-- ---- the test: each row's limits, and rising days
 
 abbrev pub limits : Row → List Bool
 limits r =
@@ -66,7 +66,7 @@ pub builtIn-accepted : AcceptedTable builtIn
 unfolding builtIn
 builtIn-accepted = accepted-of builtIn (lit≤ tt) (lit≤ tt) tt tt
 
--- ---- a table that is lent
+-- ---- a table that is lent: its rows, read from their numbers and written back
 
 rows-back : (rows : List Row) → rowsOf (numbers rows) ≡ rows
 unfolding rowsOf numbers

@@ -1,4 +1,6 @@
--- Where a moment x is among the rows: the place is an end's row or two neighbours around x, and the rising dates let one pair only be around x.
+-- Where a moment x is among the rows. `started` counts the rows dated at or before x: the last of them is at or before x and the next after it, so that
+-- the place is an end's row or two neighbours around x. Since the dates rise, only one pair of neighbours is around x, so that a pair that the lookup
+-- finds is that of the definition.
 -- Assumes nothing.
 use mathlib.Core.Path.{_≡_, sym, ap, subst}
 use mathlib.Core.Logic.{⊎-elim}
@@ -16,23 +18,16 @@ use Rattle.rows.specs.declared.Place.{Place}
 use Rattle.rows.specs.declared.Place.the-variants.{End, Between}
 use Rattle.rows.specs.Table.{rowAt, AcceptedTable}
 use Rattle.rows.specs.Places.{rowMoment, started, place}
-use Rattle.instants.specs.Moments.{moment}
-use Rattle.instants.specs.Limits.{dayMicros, indexOffset}
+use Rattle.instants.specs.Limits.{dayMicros}
 use Rattle.rows.specs.Inner.{Bracket, Inside, Placed}
 
 -- ---- how many rows are dated at or before x
-
-dated : (x : ℕ) (r : Row) → T (leb (rowMoment r) x) → rowMoment r ≤ x
-dated x r t = leb→le (rowMoment r) x t
-
-not-dated : (x : ℕ) (r : Row) → T (not (leb (rowMoment r) x)) → x < rowMoment r
-not-dated x r t = nleb→lt (rowMoment r) x t
 
 -- the last of them
 started-is : (x : ℕ) (rows : List Row) → 0 < started rows x → rowMoment (rowAt rows (started rows x - 1)) ≤ x
 unfolding started
 started-is x [] h = absurd (N.not-suc-le-zero h)
-started-is x (r ∷ rs) h = go (started-is x rs) (leb (rowMoment r) x) (dated x r) h
+started-is x (r ∷ rs) h = go (started-is x rs) (leb (rowMoment r) x) (leb→le (rowMoment r) x) h
   where
     s : ℕ
     s = started rs x
@@ -52,7 +47,7 @@ started-is x (r ∷ rs) h = go (started-is x rs) (leb (rowMoment r) x) (dated x 
 next-is : (x : ℕ) (rows : List Row) → started rows x < length rows → x < rowMoment (rowAt rows (started rows x))
 unfolding started
 next-is x [] h = absurd (N.not-suc-le-zero h)
-next-is x (r ∷ rs) h = go (next-is x rs) (leb (rowMoment r) x) (not-dated x r) h
+next-is x (r ∷ rs) h = go (next-is x rs) (leb (rowMoment r) x) (nleb→lt (rowMoment r) x) h
   where
     s : ℕ
     s = started rs x
@@ -69,7 +64,7 @@ started-le x (r ∷ rs) = cond-case (leb (rowMoment r) x) (λ (n : ℕ). n ≤ s
 started-positive : (x : ℕ) (rows : List Row) → 0 < length rows → rowMoment (rowAt rows 0) ≤ x → 0 < started rows x
 unfolding started
 started-positive x [] h k = absurd (N.not-suc-le-zero h)
-started-positive x (r ∷ rs) h k = cond-case (leb (rowMoment r) x) (λ (n : ℕ). 0 < n) (λ t. N.zero-lt-suc (started rs x)) (λ t. absurd (clash (not-dated x r t) k))
+started-positive x (r ∷ rs) h k = cond-case (leb (rowMoment r) x) (λ (n : ℕ). 0 < n) (λ t. N.zero-lt-suc (started rs x)) (λ t. absurd (clash (nleb→lt (rowMoment r) x t) k))
   where
     clash : {y : ℕ} → x < y → y ≤ x → ⊥
     clash h k = omega arith
@@ -80,10 +75,10 @@ started-positive x (r ∷ rs) h k = cond-case (leb (rowMoment r) x) (λ (n : ℕ
 place-case : (P : Place → Type 0) (rows : List Row) (x : ℕ) → 0 < length rows → ((i : ℕ) → i < length rows → P (End (rowAt rows i)))
     → ((i : ℕ) → suc i < length rows → Inside (rowAt rows i) (rowAt rows (suc i)) x → P (Between (rowAt rows i) (rowAt rows (suc i)))) → P (place rows x)
 unfolding place
-place-case P rows x some ends inside =
-    cond-case (leb x (rowMoment (rowAt rows 0))) P (λ t. ends 0 some) (λ t.
-    cond-case (leb (rowMoment (rowAt rows last)) x) P (λ u. ends last (below some)) (λ u.
-    between (nleb→lt x (rowMoment (rowAt rows 0)) t) (not-dated x (rowAt rows last) u)))
+place-case P rows x nonempty ends inside =
+    cond-case (leb x (rowMoment (rowAt rows 0))) P (λ t. ends 0 nonempty) (λ t.
+    cond-case (leb (rowMoment (rowAt rows last)) x) P (λ u. ends last (below nonempty)) (λ u.
+    between (nleb→lt x (rowMoment (rowAt rows 0)) t) (nleb→lt (rowMoment (rowAt rows last)) x u)))
   where
     last : ℕ
     last = length rows - 1
@@ -108,13 +103,14 @@ place-case P rows x some ends inside =
 
     between : rowMoment (rowAt rows 0) < x → x < rowMoment (rowAt rows last) → P (Between (rowAt rows (s - 1)) (rowAt rows s))
     between h k =
-        let g = started-positive x rows some (N.le-of-lt h) in
+        let g = started-positive x rows nonempty (N.le-of-lt h) in
         let l = less s (length rows) (started-le x rows) (λ e. apart e g k) in
         let e = up s g in
         subst (λ (n : ℕ). P (Between (rowAt rows (s - 1)) (rowAt rows n))) e
         (inside (s - 1) (subst (λ (n : ℕ). n < length rows) (sym e) l)
         (record { low = started-is x rows g; high = subst (λ (n : ℕ). x < rowMoment (rowAt rows n)) (sym e) (next-is x rows l) }))
 
+-- the rows of the place are accepted, and x is inside
 pub placed : (rows : List Row) → AcceptedTable rows → (x : ℕ) → Placed (place rows x) x
 placed rows a x = place-case (λ p. Placed p x) rows x (N.le-of-suc-le (a .two)) (λ i l. a .each i l) (λ i l k. (a .each i (N.le-of-suc-le l), a .each (suc i) l, k))
 
@@ -145,6 +141,7 @@ at-least m n f = nltb→le m n (not-T (ltb m n) (λ t. f (ltb→lt m n t)))
 clash : {x p q : ℕ} → x < p → p ≤ q → q ≤ x → ⊥
 clash h k l = omega arith
 
+-- fewer rows or more would put x on the wrong side of a date
 bracket-is : (rows : List Row) → AcceptedTable rows → (x i : ℕ) → Bracket rows x i → started rows x ≡ i + 1
 bracket-is rows a x i b = N.le-antisymm (at-least (i + 1) s not-more) (at-least s (i + 1) not-less)
   where
@@ -179,7 +176,4 @@ module _ (rows : List Row) (x : ℕ) where
 -- ---- the microseconds from one row's date to another's
 
 pub days-apart : (a b : Row) → rowMoment b - rowMoment a ≡ (b .day - a .day) * dayMicros
-days-apart a b = go (a .day) (b .day)
-  where
-    go : (a b : ℕ) → moment (b + indexOffset) 0 - moment (a + indexOffset) 0 ≡ (b - a) * dayMicros
-    go a b = omega arith
+days-apart a b = omega arith

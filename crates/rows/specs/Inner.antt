@@ -13,6 +13,7 @@ use Rattle.rows.specs.Places.{rowMoment}
 
 -- ---- a table that is lent: rows of four numbers
 
+-- the numbers of rows
 abbrev pub numbersOf : Row → List ℤ
 numbersOf r = pos (r .day) ∷ r .xc ∷ r .xs ∷ pos (r .uncertainty) ∷ []
 
@@ -20,6 +21,7 @@ unfoldable pub numbers : List Row → List (List ℤ)
 numbers [] = []
 numbers (r ∷ rs) = numbersOf r ∷ numbers rs
 
+-- the rows of numbers
 abbrev pub rowOf : List ℤ → Row
 rowOf r = row (natAbs (getD r 0 (pos 0))) (getD r 1 (pos 0)) (getD r 2 (pos 0)) (natAbs (getD r 3 (pos 0)))
 

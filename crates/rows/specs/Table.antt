@@ -29,6 +29,7 @@ lastRowDay = 88433
 abbrev pub largest : ℕ
 largest = 100_000
 
+-- a row: its date, both amplitudes and its uncertainty, which is above 0, are within these limits
 pub record AcceptedRow (r : Row) : Type 0 where
   pub from : firstRowDay ≤ r .day
   pub to : r .day ≤ lastRowDay

@@ -1,4 +1,4 @@
--- `nutation::uncertainty_between` meets its contract. Assumes nothing.
+-- `nutation::uncertainty_between` meets its contract: the way between the rows is that of the definition (`between-is`). Assumes nothing.
 use mathlib.Core.Path.{sym, _∙_, ap}
 use Prim.Native.Nat.{ℕ, _*_, _-_}
 use Rattle.instants.specs.Limits.{dayMicros}

@@ -1,16 +1,37 @@
--- `rows::row_at` meets its contract: the days and the uncertainties of an accepted table are natural numbers, and each number is itself as an i64. Assumes nothing.
-use mathlib.Core.Path.{refl}
+-- `rows::row_at` meets its contract: the days and the uncertainties of an accepted table are natural numbers, and each number is itself as an i64.
+-- Assumes nothing.
+use mathlib.Core.Path.{_≡_, refl}
 use mathlib.Core.List.{[]}
 use native.Mathlib.Omega.{arith}
-use lib.IntN.{pos}
+use Prim.Native.Nat.{ℕ}
+use lib.IntN.{ℤ, pos}
 use lib.ListN.{getD}
 use mir.Syntax.{w64}
 use mir.Val.{SFits}
 use mir.Facts.{toZ-ofZ}
+use Rattle.rows.specs.Table.{rowAt, AcceptedRow}
+use Rattle.rows.specs.Inner.{numbersOf, rowsOf}
 use Rattle.rows.proofs.Accepted.{lent-numbers, lent-row}
 use borrow.Author.Needs.{needs}
 use Rattle.rows.proofs.row_at.Statement.{statement}
 use Rattle.rows.proofs.row_at.Tie as tie
+
+module _ (s : tie.Start) where
+  -- the number in the column j of the row
+  abbrev cell : ℕ → ℤ
+  cell j = getD (getD (s .args .t .now) (s .args .i) []) j (pos 0)
+
+  numbers-are : getD (s .args .t .now) (s .args .i) [] ≡ numbersOf (rowAt (rowsOf (s .args .t .now)) (s .args .i))
+  numbers-are = lent-numbers (s .args .t .now) (s .pre .1) (s .args .i) (s .pre .0)
+
+  accepted : AcceptedRow (rowAt (rowsOf (s .args .t .now)) (s .args .i))
+  accepted = lent-row (s .args .t .now) (s .pre .1) (s .args .i) (s .pre .0)
+
+-- the start, from behind the last column
+abbrev entry : tie.After-t23 → tie.Start
+entry c = c .before .before .before .before
+
+-- ---- the needs
 
 mul-t3 : tie.Need-mul-t3
 mul-t3 c = search needs
@@ -24,9 +45,8 @@ index-2-t7 c = search needs
 cast-t8 : tie.Need-cast-t8
 cast-t8 c =
     let s = c .before in
-    let f : SFits w64 (getD (getD (s .args .t .now) (s .args .i) []) 0 (pos 0)) = search needs in
-    let r = lent-row (s .args .t .now) (s .pre .1) (s .args .i) (s .pre .0) in
-    rw (toZ-ofZ f, lent-numbers (s .args .t .now) (s .pre .1) (s .args .i) (s .pre .0)) (tt, record { fits = omega (arith, r .to) })
+    let f : SFits w64 (cell s 0) = search needs in
+    rw (toZ-ofZ f, numbers-are s) (tt, record { fits = omega (arith, accepted s .to) })
 
 mul-t9 : tie.Need-mul-t9
 mul-t9 c = search needs
@@ -57,20 +77,18 @@ index-2-t23 c = search needs
 
 cast-t24 : tie.Need-cast-t24
 cast-t24 c =
-    let s = c .before .before .before .before in
-    let f : SFits w64 (getD (getD (s .args .t .now) (s .args .i) []) 3 (pos 0)) = search needs in
-    let r = lent-row (s .args .t .now) (s .pre .1) (s .args .i) (s .pre .0) in
-    rw (toZ-ofZ f, lent-numbers (s .args .t .now) (s .pre .1) (s .args .i) (s .pre .0)) (tt, record { fits = omega (arith, r .uncertainty-small) })
+    let s = entry c in
+    let f : SFits w64 (cell s 3) = search needs in
+    rw (toZ-ofZ f, numbers-are s) (tt, record { fits = omega (arith, accepted s .uncertainty-small) })
 
 returns : tie.Need-returns
 returns c =
-    let s = c .before .before .before .before in
-    let f₀ : SFits w64 (getD (getD (s .args .t .now) (s .args .i) []) 0 (pos 0)) = search needs in
-    let f₁ : SFits w64 (getD (getD (s .args .t .now) (s .args .i) []) 1 (pos 0)) = search needs in
-    let f₂ : SFits w64 (getD (getD (s .args .t .now) (s .args .i) []) 2 (pos 0)) = search needs in
-    let f₃ : SFits w64 (getD (getD (s .args .t .now) (s .args .i) []) 3 (pos 0)) = search needs in
-    rw (toZ-ofZ f₀, toZ-ofZ f₁, toZ-ofZ f₂, toZ-ofZ f₃, lent-numbers (s .args .t .now) (s .pre .1) (s .args .i) (s .pre .0))
-    (refl, lent-row (s .args .t .now) (s .pre .1) (s .args .i) (s .pre .0))
+    let s = entry c in
+    let f₀ : SFits w64 (cell s 0) = search needs in
+    let f₁ : SFits w64 (cell s 1) = search needs in
+    let f₂ : SFits w64 (cell s 2) = search needs in
+    let f₃ : SFits w64 (cell s 3) = search needs in
+    rw (toZ-ofZ f₀, toZ-ofZ f₁, toZ-ofZ f₂, toZ-ofZ f₃, numbers-are s) (refl, accepted s)
 
 pub row-at-spec : {M : Type 1} → statement M
 row-at-spec =
