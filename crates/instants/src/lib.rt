@@ -17,6 +17,7 @@ pub const DAY_MICROS: u64 = 86400000000;
 // A day's index counts from 1600-01-01, whose day number is minus this.
 pub const INDEX_OFFSET: u64 = 94553;
 
+// The same as an i64, for day numbers.
 const SIGNED_OFFSET: i64 = INDEX_OFFSET as i64;
 
 // An instant: a day number (Modified Julian Date) and the microseconds of that day.
