@@ -54,8 +54,8 @@ late-accepted : IsAccepted (+ 54832) 0
 unfolding acceptance outside dayIndex
 late-accepted = refl
 
--- Either offset, ours and the exact one: a number within the distance of the exact offset on both days is within twice the distance of ours on both, and
--- ours are further apart than that.
+-- Either offset, ours and the exact one: a number within the distance of the exact offset on both days is within twice the distance of ours on both, but
+-- ours are more than four times the distance apart.
 no-constant : (ours exact : ℕ → ℤ) → ((d : ℤ) (m : ℕ) → IsAccepted d m → Within (ours (momentOf d m)) (exact (momentOf d m)) (exactDen builtIn (momentOf d m)))
     → 4 * distance < natAbs (ours (momentOf (+ 46796) 0) -ℤ ours (momentOf (+ 54832) 0))
     → (c : ℤ) → ((d : ℤ) (m : ℕ) → IsAccepted d m → Within c (exact (momentOf d m)) (exactDen builtIn (momentOf d m))) → ⊥
