@@ -123,6 +123,20 @@ near-unscale k {x} {y} {e} {r} n h = near x y (below (lt-of-mul-lt-mul-left k (l
     below : natAbs (x -ℤ y) < suc e → natAbs (x -ℤ y) ≤ e
     below h = omega arith
 
+-- two whole numbers near one fraction, z over D, are near one another
+pub near-one-fraction : {x y z : ℤ} {D : ℕ} (a b : ℕ) → 0 < D → Near (x *ℤ pos D) z (a * D) → Near (y *ℤ pos D) z (b * D) → Near x y (a + b)
+near-one-fraction {x} {y} {z} {D} a b h n m = near-unscale D (near-as (near-trans n (near-sym m)) (alg x (pos D)) (alg y (pos D)) (error a b D)) h
+  where
+    alg : (x d : ℤ) → d *ℤ x ≡ x *ℤ d
+    alg x d = ring (x ▸ d ▸ end) (search quote depth 13) tt
+
+    error : (a b d : ℕ) → a * d + b * d ≤ d * (a + b) + 0
+    error a b d = omega arith
+
+-- no number is near two that are far apart
+pub near-two-apart : {x y z : ℤ} {a b : ℕ} → Near x y a → Near x z b → a + b < natAbs (y -ℤ z) → ⊥
+near-two-apart n m h = N.lt-irrefl _ (N.lt-of-lt-of-le h (near-trans (near-sym n) m .by))
+
 -- two bounded numbers multiplied
 pub near-mul : (B C : ℕ) {x y x′ y′ : ℤ} {e f : ℕ} → natAbs y′ ≤ B → natAbs x ≤ C → Near x y e → Near x′ y′ f → Near (x *ℤ x′) (y *ℤ y′) (e * B + C * f)
 near-mul B C {x} {y} {x′} {y′} b c n m =

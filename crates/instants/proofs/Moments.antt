@@ -5,7 +5,9 @@ use native.Mathlib.Omega.{arith}
 use lib.IntN.{ℤ, pos, _-ℤ_}
 use Rattle.algebra.proofs.Ring.{end, _▹_, ring, quote}
 use Rattle.instants.specs.Limits.{dayMicros, indexOffset, daysCovered}
-use Rattle.instants.specs.Moments.{sinceJ2000, moment, since, latest}
+use Rattle.instants.specs.Instants.{dayIndex, IsAccepted}
+use Rattle.instants.specs.Moments.{sinceJ2000, moment, momentOf, since, latest}
+use Rattle.instants.proofs.Accepted.{accepted-at}
 
 by-index : (i m : ℕ) → sinceJ2000 (pos i -ℤ pos indexOffset) m ≡ since (moment i m)
 unfolding since
@@ -15,5 +17,12 @@ by-index i m = ring (i ▹ m ▹ end) (search quote depth 13) tt
 pub moment-is : (d : ℤ) (i m : ℕ) → d ≡ pos i -ℤ pos indexOffset → sinceJ2000 d m ≡ since (moment i m)
 moment-is d i m e = ap (λ (z : ℤ). sinceJ2000 z m) e ∙ by-index i m
 
+-- of an accepted instant
+pub accepted-moment : (d : ℤ) (m : ℕ) → IsAccepted d m → sinceJ2000 d m ≡ since (momentOf d m)
+accepted-moment d m a = moment-is d (dayIndex d) m (accepted-at d m (dayIndex d) a .is)
+
 pub moment-le : (i m : ℕ) → i < daysCovered → m < dayMicros → moment i m ≤ latest
 moment-le i m hi hm = omega arith
+
+pub accepted-le : (d : ℤ) (m : ℕ) → IsAccepted d m → momentOf d m ≤ latest
+accepted-le d m a = let k = accepted-at d m (dayIndex d) a in moment-le (dayIndex d) m (omega (arith, k .high)) (k .less)

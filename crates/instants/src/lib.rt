@@ -15,7 +15,10 @@ const LAST_DAY: i64 = 88433;
 pub const DAY_MICROS: u64 = 86400000000;
 
 // A day's index counts from 1600-01-01, whose day number is minus this.
-const INDEX_OFFSET: i64 = 94553;
+pub const INDEX_OFFSET: u64 = 94553;
+
+// The same as an i64, for day numbers.
+const SIGNED_OFFSET: i64 = INDEX_OFFSET as i64;
 
 // A moment counts from five Julian centuries of 36525 days before J2000.0: that is 36527 days and a half before 1600-01-01 0 h.
 const ORIGIN_DAYS: u64 = 36527;
@@ -50,7 +53,7 @@ pub fn day_index(day: i64) -> IndexAnswer
     if LAST_DAY < day {
         return IndexAnswer::NoIndex;
     }
-    IndexAnswer::AtIndex((day + INDEX_OFFSET) as u64)
+    IndexAnswer::AtIndex((day + SIGNED_OFFSET) as u64)
 }
 
 // The day number of an index.
@@ -58,7 +61,7 @@ pub fn day_at_index(n: u64) -> i64
     requires { ⌜ n < indexLimit ⌝ }
     ensures { λ r. ⌜ r ≡ dayAtIndex n ⌝ }
 {
-    (n as i64) - INDEX_OFFSET
+    (n as i64) - SIGNED_OFFSET
 }
 
 // Whether an instant is accepted: the index of its day, or refusal 8 or 9. Every service asks here.

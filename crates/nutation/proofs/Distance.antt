@@ -1,15 +1,17 @@
--- THE DISTANCE: our offsets against the exact ones, with any accepted table, on every day from 1600 to 2400.
+-- THE DISTANCE: our offsets against the exact ones, with any accepted table, at every moment of the days covered.
+-- An offset is ten times a difference of two products, amplitude times sine or cosine. In each product the amplitude's error (3 units of 2^-10, proved in
+-- Interpolation) counts times a sine of at most 2^32, and the sine's error (its own and that of the angle, 2 units of 2^-41 turn) times an amplitude of at
+-- most 1000 microarcseconds. Both products and the rounding, half a nanoarcsecond, come to at most 2.
 -- Assumes nothing.
-use mathlib.Core.Path.{_≡_, refl, sym, _∙_, ap, subst}
+use mathlib.Core.Path.{_≡_, refl, _∙_, ap}
 use mathlib.Core.List.{List}
-use Prim.Native.Nat.{ℕ, _+_, _*_, _-_, _^_, _≤_, _<_}
+use Prim.Native.Nat.{ℕ, _+_, _*_, _-_, _/_, _^_, _≤_, _<_}
 use native.Mathlib.Nat as N
 use native.Mathlib.Nat.{le-trans, le-of-eq}
 use native.Mathlib.Omega.{arith}
 use lib.Dec.{lit≤}
 use lib.IntN.{ℤ, pos, negℤ, _+ℤ_, _-ℤ_, _*ℤ_, natAbs}
 use lib.Signed.{shrZ}
-use Rattle.instants.specs.Limits.{dayMicros, daysCovered, indexOffset}
 use Rattle.algebra.specs.Integers.{dist}
 use Rattle.algebra.specs.Near.{Near}
 use Rattle.algebra.proofs.Ring.{end, _▸_, ring, quote}
@@ -22,23 +24,23 @@ use Rattle.sine.specs.Ours.{ourSine, ourCosine}
 use Rattle.sine.proofs.Angles.{sineDen-positive}
 use Rattle.sine.proofs.Sizes.{sine-below, cosine-below}
 use Rattle.sine.proofs.Distance.{sineDistance, SineNear, sine-near, cosine-near}
-use Rattle.instants.specs.Moments.{sinceJ2000, century, moment, latest, since}
+use Rattle.instants.specs.Moments.{century, latest, since}
 use Rattle.arguments.specs.Ours.{high}
 use Rattle.arguments.proofs.Floor.{high-near}
-use Rattle.instants.proofs.Moments.{moment-le}
-use Rattle.nutation.specs.declared.Row.{Row}
-use Rattle.nutation.specs.declared.Place.{Place}
-use Rattle.nutation.specs.Table.{largest, AcceptedRow, AcceptedTable}
-use Rattle.nutation.specs.Exact.{place, parts, value, XC, XS, YC, YS, angleParts, exactAngle, exactOffset}
-use Rattle.nutation.specs.Ours.{momentOf, startAngle, angleRate, ourAngle, amplitude, ourXC, ourXS, ourYC, ourYS, offset, ourOffset, offsetsAt, ourOffsets}
+use Rattle.rows.specs.declared.Row.{Row}
+use Rattle.rows.specs.declared.Place.{Place}
+use Rattle.rows.specs.Table.{largest, AcceptedRow, AcceptedTable}
+use Rattle.rows.specs.Places.{place}
+use Rattle.nutation.specs.Exact.{parts, value, XC, XS, YC, YS, angleParts, exactAngle, exactOffset}
+use Rattle.nutation.specs.Ours.{startAngle, angleRate, ourAngle, amplitude, ourXC, ourXS, ourYC, ourYS, offset, ourOffset, offsetsAt, ourOffsets}
 use Rattle.nutation.specs.Claims.{distance, Within, OffsetsNear}
-use Rattle.nutation.specs.Inner.{Placed}
-use Rattle.nutation.proofs.Time.{instant-is, moment-back}
-use Rattle.nutation.proofs.Places.{placed}
+use Rattle.rows.specs.Inner.{Placed}
+use Rattle.rows.proofs.Places.{placed}
 use Rattle.nutation.proofs.Sizes.{gone-le, angle-less}
+use Rattle.instants.specs.Limits.{dayMicros}
 use Rattle.nutation.proofs.Interpolation.{parts-positive, amplitude-near, value-small}
 
--- ---- the angle: within 2 units of 2^-41 turn, but for whole turns
+-- ---- the angle: within 2 units of 2^-41 turn, but for whole turns. The start and the rate are to nearest, and the rate's product is cut.
 
 abbrev angleDistance : ℕ
 angleDistance = 2
@@ -128,6 +130,7 @@ module _ (W D : ℕ) where
 -- ---- both offsets, at a place of an accepted table
 
 module _ (p : Place) (x : ℕ) (at : Placed p x) (h : x ≤ latest) where
+  -- the denominator of the exact sine and cosine
   D : ℕ
   D = sineDen angleParts
 
@@ -135,45 +138,34 @@ module _ (p : Place) (x : ℕ) (at : Placed p x) (h : x ≤ latest) where
   below = remainder-less (negℤ (since x *ℤ pos 100)) angleParts (lit≤ tt)
 
   factors : {U u : ℤ} (f : Row → ℤ) → ((r : Row) → AcceptedRow r → natAbs (f r) ≤ largest) → SineNear U u D angleDistance → natAbs U < 2 ^ 32
-      → Factors (parts p) D (amplitude f p (since x)) (value f p (since x)) U u
+      → Factors (parts p) D (amplitude f p x) (value f p x) U u
   factors f k w s = record { amp = amplitude-near f k p x at; amp-small = value-small f k p x at; wave = w; wave-small = N.le-of-lt s }
 
   cos-near : SineNear (ourCosine (ourAngle x)) (exactCosine angleParts (exactAngle (since x))) D angleDistance
   unfolding D
-  cos-near = cosine-near (43021 * 21600000000) (exactAngle (since x)) (ourAngle x) angleDistance (lit≤ tt) below (angle-less x) (angle-near x h)
+  cos-near = cosine-near (43021 * (dayMicros / 4)) (exactAngle (since x)) (ourAngle x) angleDistance (lit≤ tt) below (angle-less x) (angle-near x h)
 
   sin-near : SineNear (ourSine (ourAngle x)) (exactSine angleParts (exactAngle (since x))) D angleDistance
   unfolding D
-  sin-near = sine-near (43021 * 21600000000) (exactAngle (since x)) (ourAngle x) angleDistance (lit≤ tt) below (angle-less x) (angle-near x h)
+  sin-near = sine-near (43021 * (dayMicros / 4)) (exactAngle (since x)) (ourAngle x) angleDistance (lit≤ tt) below (angle-less x) (angle-near x h)
 
-  here : (b : ℕ → ℤ) → b (momentOf (since x)) ≡ b x
-  here b = ap b (moment-back x)
-
-  x-near : Within (ourOffset (ourXC p (since x)) (ourXS p (since x)) (since x)) (exactOffset (XC p (since x)) (XS p (since x)) (since x)) (parts p * D)
+  x-near : Within (ourOffset (ourXC p x) (ourXS p x) x) (exactOffset (XC p x) (XS p x) x) (parts p * D)
   unfolding exactOffset D
-  x-near = near-as (offset-near (parts p) D (factors (λ r. r .xc) (λ r a. a .xc-small) cos-near (cosine-below (ourAngle x))) (factors (λ r. r .xs) (λ r a. a .xs-small) sin-near (sine-below (ourAngle x))))
-      (here (λ y. offset (ourXC p (since x)) (ourXS p (since x)) (ourCosine (ourAngle y)) (ourSine (ourAngle y)) *ℤ pos (parts p * D))) refl (N.le-refl (distance * (parts p * D)))
+  x-near = offset-near (parts p) D (factors (λ r. r .xc) (λ r a. a .xc-small) cos-near (cosine-below (ourAngle x))) (factors (λ r. r .xs) (λ r a. a .xs-small) sin-near (sine-below (ourAngle x)))
 
-  y-near : Within (ourOffset (ourYC p (since x)) (ourYS p (since x)) (since x)) (exactOffset (YC p (since x)) (YS p (since x)) (since x)) (parts p * D)
+  y-near : Within (ourOffset (ourYC p x) (ourYS p x) x) (exactOffset (YC p x) (YS p x) x) (parts p * D)
   unfolding exactOffset D
-  y-near = near-as (offset-near (parts p) D (factors (λ r. r .xs) (λ r a. a .xs-small) cos-near (cosine-below (ourAngle x))) (minus-factors (parts p) D (factors (λ r. r .xc) (λ r a. a .xc-small) sin-near (sine-below (ourAngle x)))))
-      (here (λ y. offset (ourYC p (since x)) (ourYS p (since x)) (ourCosine (ourAngle y)) (ourSine (ourAngle y)) *ℤ pos (parts p * D))) refl (N.le-refl (distance * (parts p * D)))
+  y-near = offset-near (parts p) D (factors (λ r. r .xs) (λ r a. a .xs-small) cos-near (cosine-below (ourAngle x))) (minus-factors (parts p) D (factors (λ r. r .xc) (λ r a. a .xc-small) sin-near (sine-below (ourAngle x))))
 
--- with any accepted table, at any moment of the days covered
-near-at : (rows : List Row) → AcceptedTable rows → (x : ℕ) → x ≤ latest → OffsetsNear rows (since x) (ourOffsets rows (since x))
+-- With any accepted table, at every moment up to the last microsecond of 2400, both offsets are within 2 nanoarcseconds of the exact ones, and the
+-- uncertainty is the exact one.
+pub offsets-near : (rows : List Row) → AcceptedTable rows → (x : ℕ) → x ≤ latest → OffsetsNear rows x (ourOffsets rows x)
 unfolding offsetsAt D
-near-at rows a x h =
+offsets-near rows a x h =
     let p = placed rows a x in
     record {
-      den-positive = N.mul-pos (parts-positive (place rows (since x)) x p) (sineDen-positive angleParts (lit≤ tt));
-      x-near = x-near (place rows (since x)) x p h;
-      y-near = y-near (place rows (since x)) x p h;
+      den-positive = N.mul-pos (parts-positive (place rows x) x p) (sineDen-positive angleParts (lit≤ tt));
+      x-near = x-near (place rows x) x p h;
+      y-near = y-near (place rows x) x p h;
       uncertainty-is = refl;
     }
-
--- PROMISE. With any accepted table, on each day from 1600-01-01 to 2400-12-31 and at each microsecond of it, both offsets are within 2 nanoarcseconds of
--- the exact ones, and the uncertainty is the exact one. The day has the index i and the day number d.
-pub offsets-near : (rows : List Row) → AcceptedTable rows → (d : ℤ) (i m : ℕ) → d ≡ pos i -ℤ pos indexOffset → i < daysCovered → m < dayMicros
-    → OffsetsNear rows (sinceJ2000 d m) (ourOffsets rows (sinceJ2000 d m))
-offsets-near rows a d i m e hi hm =
-    subst (λ (n : ℤ). OffsetsNear rows n (ourOffsets rows n)) (sym (instant-is d i m e)) (near-at rows a (moment i m) (moment-le i m hi hm))

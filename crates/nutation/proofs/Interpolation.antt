@@ -1,6 +1,7 @@
--- An amplitude: ours is within 3 units of 2^-10 of the exact one. The cut to ten places and the factor's 27 make the distance.
+-- An amplitude: ours is within 3 units of 2^-10 of the exact one. The cut from 27 binary places to 10 loses less than one unit; the factor, cut to 27
+-- places, less than 2^-27 times the difference of two rows, of at most 2000 microarcseconds, which is below two units.
 -- Assumes nothing.
-use mathlib.Core.Path.{_≡_, refl, sym, ap}
+use mathlib.Core.Path.{_≡_, refl, sym}
 use Prim.Native.Nat.{ℕ, _+_, _*_, _-_, _/_, _^_, _≤_, _<_, zero-le}
 use native.Mathlib.Nat as N
 use native.Mathlib.Nat.{le-trans, le-of-eq}
@@ -12,15 +13,14 @@ use Rattle.algebra.specs.Near.{Near}
 use Rattle.algebra.proofs.Ring.{end, _▸_, ring, quote}
 use Rattle.algebra.proofs.Near.{near-as, near-trans, near-add, near-refl, near-scale, near-unscale}
 use Rattle.algebra.proofs.Floor.{near-floor, near-shr}
-use Rattle.nutation.specs.declared.Row.{Row}
-use Rattle.nutation.specs.declared.Place.{Place}
-use Rattle.nutation.specs.declared.Place.the-variants.{End, Between}
-use Rattle.nutation.specs.Table.{largest, AcceptedRow}
-use Rattle.nutation.specs.Exact.{rowDate, span, parts, value}
+use Rattle.rows.specs.declared.Row.{Row}
+use Rattle.rows.specs.declared.Place.{Place}
+use Rattle.rows.specs.declared.Place.the-variants.{End, Between}
+use Rattle.rows.specs.Table.{largest, AcceptedRow}
+use Rattle.rows.specs.Places.{rowMoment}
+use Rattle.nutation.specs.Exact.{span, parts, value}
 use Rattle.nutation.specs.Ours.{factor, mixed, amplitude}
-use Rattle.instants.specs.Moments.{since}
-use Rattle.nutation.specs.Inner.{Placed}
-use Rattle.nutation.proofs.Time.{after-is, after-natural}
+use Rattle.rows.specs.Inner.{Placed}
 use Rattle.nutation.proofs.Sizes.{inside-span, after-less, between-small, minus-small}
 
 mixed-near : (W off : ℕ) (c d : ℤ) → 0 < W → natAbs c ≤ largest → natAbs d ≤ largest
@@ -64,22 +64,20 @@ parts-positive (End r) x h = lit≤ tt
 parts-positive (Between a b) x h = N.lt-of-le-of-lt zero-le (N.lt-of-lt-of-le (after-less a b x (h .2)) (le-of-eq (sym (inside-span a b x (h .2)))))
 
 module _ (f : Row → ℤ) (k : (r : Row) → AcceptedRow r → natAbs (f r) ≤ largest) where
-  pub amplitude-near : (p : Place) (x : ℕ) → Placed p x → Near (amplitude f p (since x) *ℤ pos (parts p)) (value f p (since x) *ℤ pos (2 ^ 10)) (3 * parts p)
+  pub amplitude-near : (p : Place) (x : ℕ) → Placed p x → Near (amplitude f p x *ℤ pos (parts p)) (value f p x *ℤ pos (2 ^ 10)) (3 * parts p)
   unfolding amplitude value parts factor
   amplitude-near (End r) x h = near-as (near-refl (f r *ℤ pos (2 ^ 10))) (alg (f r *ℤ pos (2 ^ 10))) refl (lit≤ tt)
     where
       alg : (z : ℤ) → z *ℤ pos 1 ≡ z
       alg z = ring (z ▸ end) (search quote depth 13) tt
   amplitude-near (Between a b) x h =
-      near-as (mixed-near (span a b) (natAbs (since x -ℤ rowDate a)) (f a) (f b) (parts-positive (Between a b) x h) (k a (h .0)) (k b (h .1))) refl
-      (ap (λ (z : ℤ). (f a *ℤ pos (span a b) +ℤ (f b -ℤ f a) *ℤ z) *ℤ pos (2 ^ 10)) (after-natural x a (h .2 .low))) (N.le-refl (3 * span a b))
+      mixed-near (span a b) (x - rowMoment a) (f a) (f b) (parts-positive (Between a b) x h) (k a (h .0)) (k b (h .1))
 
-  pub value-small : (p : Place) (x : ℕ) → Placed p x → natAbs (value f p (since x)) ≤ largest * parts p
+  pub value-small : (p : Place) (x : ℕ) → Placed p x → natAbs (value f p x) ≤ largest * parts p
   unfolding value parts
   value-small (End r) x h = le-trans (k r h) (lit≤ tt)
   value-small (Between a b) x h =
-      le-trans (le-of-eq (ap (λ (z : ℤ). natAbs (f a *ℤ pos (span a b) +ℤ (f b -ℤ f a) *ℤ z)) (after-natural x a (h .2 .low))))
-      (between-small (span a b) (natAbs (since x -ℤ rowDate a)) largest (f a) (f b) inner (k a (h .0)) (k b (h .1)))
+      between-small (span a b) (x - rowMoment a) largest (f a) (f b) inner (k a (h .0)) (k b (h .1))
     where
-      inner : natAbs (since x -ℤ rowDate a) ≤ span a b
-      inner = le-trans (le-of-eq (after-is x a (h .2 .low))) (le-trans (N.le-of-lt (after-less a b x (h .2))) (le-of-eq (sym (inside-span a b x (h .2)))))
+      inner : x - rowMoment a ≤ span a b
+      inner = le-trans (N.le-of-lt (after-less a b x (h .2))) (le-of-eq (sym (inside-span a b x (h .2))))

@@ -1,4 +1,5 @@
--- The uncertainty, exact: rounded up in steps that 64 bits hold.
+-- The uncertainty, exact: rounded up in two steps that 64 bits hold. (a e + b) / (p e), rounded up, is (a + b / e) / p, where b / e is rounded up first and
+-- then the whole: e is the microseconds of a day, a and p count whole days, and b is the rest.
 -- Assumes nothing.
 use mathlib.Core.Path.{_≡_, sym, _∙_, ap, ap₂}
 use Prim.Native.Nat.{ℕ, _+_, _*_, _-_, _/_, _%_, _≤_, _<_}
@@ -9,19 +10,19 @@ use lib.IntN.{ℤ, pos, _+ℤ_, _-ℤ_, _*ℤ_, natAbs}
 use Rattle.instants.specs.Limits.{dayMicros}
 use Rattle.algebra.specs.Integers.{dist}
 use Rattle.algebra.proofs.Ring.{end, _▸_, _▹_, ring, quote, ringN, quoteN}
-use Rattle.nutation.specs.declared.Row.{Row}
-use Rattle.nutation.specs.declared.Place.the-variants.{End, Between}
-use Rattle.nutation.specs.Exact.{span, value, uValue, uParts, roundUp, uncertaintyAt}
-use Rattle.instants.specs.Moments.{since}
-use Rattle.nutation.specs.Inner.{dateMoment, Inside, twiceBetween}
-use Rattle.nutation.proofs.Time.{apart-is, after-is, after-natural}
+use Rattle.rows.specs.declared.Row.{Row}
+use Rattle.rows.specs.declared.Place.the-variants.{End, Between}
+use Rattle.rows.specs.Places.{rowMoment}
+use Rattle.nutation.specs.Exact.{value, uValue, uParts, roundUp, uncertaintyAt}
+use Rattle.rows.specs.Inner.{Inside}
+use Rattle.nutation.specs.Inner.{twiceBetween}
 use Rattle.nutation.proofs.Sizes.{inside-span, after-less}
 
 -- ---- at or outside an end
 
-pub end-is : (r : Row) (x : ℕ) → uncertaintyAt (End r) (since x) ≡ 20 * r .uncertainty + roundUp (265 * dist x (dateMoment r)) dayMicros
+pub end-is : (r : Row) (x : ℕ) → uncertaintyAt (End r) x ≡ 20 * r .uncertainty + roundUp (265 * dist x (rowMoment r)) dayMicros
 unfolding uncertaintyAt uValue uParts
-end-is r x = ap (λ (k : ℕ). roundUp (2 * (10 * (r .uncertainty * (100 * dayMicros) + 1325 * k))) (100 * dayMicros)) (apart-is x r) ∙ go (r .uncertainty) (dist x (dateMoment r))
+end-is r x = go (r .uncertainty) (dist x (rowMoment r))
   where
     go : (u k : ℕ) → roundUp (2 * (10 * (u * (100 * dayMicros) + 1325 * k))) (100 * dayMicros) ≡ 20 * u + roundUp (265 * k) dayMicros
     go u k = omega arith
@@ -36,12 +37,11 @@ between-natural u v w n h = ap (λ (z : ℤ). pos u *ℤ z +ℤ (pos v -ℤ pos 
     alg u v r n = ring (u ▸ v ▸ r ▸ n ▸ end) (search quote depth 13) tt
 
 pub between-is : (a b : Row) (x : ℕ) → Inside a b x
-    → uncertaintyAt (Between a b) (since x) ≡ twiceBetween (a .uncertainty) (b .uncertainty) ((b .day - a .day) * dayMicros) (x - dateMoment a)
+    → uncertaintyAt (Between a b) x ≡ twiceBetween (a .uncertainty) (b .uncertainty) ((b .day - a .day) * dayMicros) (x - rowMoment a)
 unfolding uncertaintyAt uValue uParts value twiceBetween
 between-is a b x h =
-    ap (λ (z : ℤ). roundUp (2 * (10 * natAbs (pos u *ℤ pos (span a b) +ℤ (pos v -ℤ pos u) *ℤ z))) (span a b)) (after-natural x a (h .low))
-    ∙ ap₂ (λ (w n : ℕ). roundUp (2 * (10 * natAbs (pos u *ℤ pos w +ℤ (pos v -ℤ pos u) *ℤ pos n))) w) (inside-span a b x h) (after-is x a (h .low))
-    ∙ go ((b .day - a .day) * dayMicros) (x - dateMoment a) (N.le-of-lt (after-less a b x h))
+    ap (λ (w : ℕ). roundUp (2 * (10 * natAbs (pos u *ℤ pos w +ℤ (pos v -ℤ pos u) *ℤ pos (x - rowMoment a)))) w) (inside-span a b x h)
+    ∙ go ((b .day - a .day) * dayMicros) (x - rowMoment a) (N.le-of-lt (after-less a b x h))
   where
     u : ℕ
     u = a .uncertainty
@@ -54,6 +54,8 @@ between-is a b x h =
 
     go : (w n : ℕ) → n ≤ w → roundUp (2 * (10 * natAbs (pos u *ℤ pos w +ℤ (pos v -ℤ pos u) *ℤ pos n))) w ≡ twiceBetween u v w n
     go w n k = ap (λ (z : ℤ). roundUp (2 * (10 * natAbs z)) w) (between-natural u v w n k) ∙ ap (λ (k : ℕ). roundUp k w) (twice (u * (w - n) + v * n))
+
+-- ---- rounding up, by what it is between
 
 round-up-low : (n d : ℕ) → 0 < d → n ≤ roundUp n d * d
 round-up-low n d h = omega (arith, N.lt-div-mul-add {a = n + (d - 1)} h)

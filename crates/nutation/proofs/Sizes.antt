@@ -16,29 +16,32 @@ use Rattle.algebra.proofs.Order.{abs-neg}
 use Rattle.algebra.proofs.Near.{abs-sum, abs-prod}
 use Rattle.algebra.proofs.Fits.{small-fits, zero-less}
 use Rattle.arguments.specs.Ours.{high}
-use Rattle.instants.specs.Moments.{latest, since}
-use Rattle.nutation.specs.declared.Row.{Row}
-use Rattle.nutation.specs.declared.Place.{Place}
-use Rattle.nutation.specs.declared.Place.the-variants.{End, Between}
-use Rattle.nutation.specs.Table.{largest, AcceptedRow}
+use Rattle.instants.specs.Moments.{latest}
+use Rattle.rows.specs.declared.Row.{Row}
+use Rattle.rows.specs.declared.Place.{Place}
+use Rattle.rows.specs.declared.Place.the-variants.{End, Between}
+use Rattle.rows.specs.Table.{largest, AcceptedRow}
+use Rattle.rows.specs.Places.{rowMoment}
 use Rattle.nutation.specs.Exact.{span}
 use Rattle.nutation.specs.Ours.{startAngle, angleRate, ourAngle, factor, mixed, amplitude, offset}
-use Rattle.nutation.specs.Inner.{dateMoment, Inside, Placed, MixBounds, widest, OffsetBounds}
-use Rattle.nutation.proofs.Time.{after-is, span-is, days-apart}
+use Rattle.rows.specs.Inner.{Inside, Placed}
+use Rattle.nutation.specs.Inner.{MixBounds, widest, OffsetBounds}
+use Rattle.rows.proofs.Places.{days-apart}
 
 -- ---- between two rows
 
 module _ (a b : Row) (x : ℕ) (h : Inside a b x) where
   pub inside-span : span a b ≡ (b .day - a .day) * dayMicros
-  inside-span = span-is a b (N.le-trans (h .low) (N.le-of-lt (h .high))) ∙ days-apart a b
+  unfolding span
+  inside-span = days-apart a b
 
   -- the same quotient as the code has it
-  pub factor-is : factor a b (since x) ≡ (x - dateMoment a) * 2 ^ 27 / ((b .day - a .day) * dayMicros)
+  pub factor-is : factor a b x ≡ (x - rowMoment a) * 2 ^ 27 / ((b .day - a .day) * dayMicros)
   unfolding factor
-  factor-is = rw (after-is x a (h .low), inside-span)
+  factor-is = rw inside-span
 
-  pub after-less : x - dateMoment a < (b .day - a .day) * dayMicros
-  after-less = N.lt-of-lt-of-le (go (dateMoment a) (dateMoment b) (h .low) (h .high)) (N.le-of-eq (days-apart a b))
+  pub after-less : x - rowMoment a < (b .day - a .day) * dayMicros
+  after-less = N.lt-of-lt-of-le (go (rowMoment a) (rowMoment b) (h .low) (h .high)) (N.le-of-eq (days-apart a b))
     where
       go : (a b : ℕ) → a ≤ x → x < b → x - a < b - a
       go a b h k = omega arith
@@ -105,13 +108,13 @@ pub times-fits : (c : ℤ) → natAbs c ≤ largest → SFits w64 (c *ℤ pos (2
 times-fits c h = small-fits (c *ℤ pos (2 ^ 10)) (lt-of-le-of-lt (times-small c h) (lit≤ tt))
 
 -- at a place of an accepted table
-pub amplitude-small : (f : Row → ℤ) → ((r : Row) → AcceptedRow r → natAbs (f r) ≤ largest) → (p : Place) (x : ℕ) → Placed p x → natAbs (amplitude f p (since x)) ≤ widest
+pub amplitude-small : (f : Row → ℤ) → ((r : Row) → AcceptedRow r → natAbs (f r) ≤ largest) → (p : Place) (x : ℕ) → Placed p x → natAbs (amplitude f p x) ≤ widest
 unfolding amplitude
 amplitude-small f k (End r) x h = times-small (f r) (k r h)
 amplitude-small f k (Between a b) x h = mixed-small (record { from = k a (h .0); to = k b (h .1); part = factor-small })
   where
-    factor-small : factor a b (since x) ≤ 2 ^ 27
-    factor-small = le-trans (le-of-eq (factor-is a b x (h .2))) (factor-le (x - dateMoment a) ((b .day - a .day) * dayMicros) (after-less a b x (h .2)))
+    factor-small : factor a b x ≤ 2 ^ 27
+    factor-small = le-trans (le-of-eq (factor-is a b x (h .2))) (factor-le (x - rowMoment a) ((b .day - a .day) * dayMicros) (after-less a b x (h .2)))
 
 -- zero less an amplitude
 pub minus-fits : (z : ℤ) → natAbs z ≤ widest → SFits w64 (pos 0 -ℤ z)

@@ -5,11 +5,11 @@ use mathlib.Core.List.{List}
 use Prim.Native.Nat.{ℕ, _*_, _<_}
 use lib.IntN.{ℤ, pos, _*ℤ_}
 use Rattle.algebra.specs.Near.{Near}
-use Rattle.nutation.specs.declared.Row.{Row}
+use Rattle.rows.specs.declared.Row.{Row}
 use Rattle.nutation.specs.declared.Offsets.{Offsets}
 use Rattle.nutation.specs.Exact.{exactX, exactY, exactDen, exactUncertainty}
 
--- in nanoarcseconds
+-- the distance that is promised, in nanoarcseconds
 abbrev pub distance : ℕ
 distance = 2
 
@@ -17,9 +17,9 @@ distance = 2
 abbrev pub Within : ℤ → ℤ → ℕ → Type 0
 Within z num den = Near (z *ℤ pos den) num (distance * den)
 
--- both offsets are near the exact ones at n, over a denominator that is not 0, and the uncertainty is the exact one
-pub record OffsetsNear (rows : List Row) (n : ℤ) (o : Offsets) : Type 0 where
-  pub den-positive : 0 < exactDen rows n
-  pub x-near : Within (o .x) (exactX rows n) (exactDen rows n)
-  pub y-near : Within (o .y) (exactY rows n) (exactDen rows n)
-  pub uncertainty-is : o .uncertainty ≡ exactUncertainty rows n
+-- both offsets are near the exact ones at x, over a denominator that is not 0, and the uncertainty is the exact one
+pub record OffsetsNear (rows : List Row) (x : ℕ) (o : Offsets) : Type 0 where
+  pub den-positive : 0 < exactDen rows x
+  pub x-near : Within (o .x) (exactX rows x) (exactDen rows x)
+  pub y-near : Within (o .y) (exactY rows x) (exactDen rows x)
+  pub uncertainty-is : o .uncertainty ≡ exactUncertainty rows x

@@ -1,68 +1,25 @@
 -- What only the contracts of the code's own functions cite.
 -- Assumes nothing.
-use mathlib.Core.Path.{_≡_}
-use mathlib.Core.List.{List, [], _∷_}
 use Prim.Native.Nat.{ℕ, _+_, _*_, _-_, _^_, _≤_, _<_}
-use lib.IntN.{ℤ, pos, natAbs}
-use lib.ListN.{length, getD}
-use Rattle.instants.specs.Moments.{moment}
-use Rattle.nutation.specs.declared.Row.{Row}
-use Rattle.nutation.specs.declared.Place.{Place}
-use Rattle.nutation.specs.declared.Place.the-variants.{End, Between}
+use lib.IntN.{ℤ, natAbs}
+use Rattle.instants.specs.Limits.{dayMicros}
+use Rattle.rows.specs.declared.Place.{Place}
+use Rattle.rows.specs.Table.{lastRowDay, largest}
 use Rattle.nutation.specs.declared.Amplitudes.{Amplitudes}
-use Rattle.nutation.specs.Table.{row, rowAt, largest, AcceptedRow, AcceptedTable}
 use Rattle.nutation.specs.Exact.{roundUp}
-use Rattle.instants.specs.Limits.{indexOffset}
 use Rattle.nutation.specs.Ours.{ourXC, ourXS}
-
--- ---- time: the code counts x, the microseconds since five centuries before J2000.0
-
--- a row's date as x
-abbrev pub dateMoment : Row → ℕ
-dateMoment r = moment (r .day + indexOffset) 0
-
--- ---- a table that is lent: rows of four numbers
-
-abbrev pub numbersOf : Row → List ℤ
-numbersOf r = pos (r .day) ∷ r .xc ∷ r .xs ∷ pos (r .uncertainty) ∷ []
-
-unfoldable pub numbers : List Row → List (List ℤ)
-numbers [] = []
-numbers (r ∷ rs) = numbersOf r ∷ numbers rs
-
-abbrev pub rowOf : List ℤ → Row
-rowOf r = row (natAbs (getD r 0 (pos 0))) (getD r 1 (pos 0)) (getD r 2 (pos 0)) (natAbs (getD r 3 (pos 0)))
-
-unfoldable pub rowsOf : List (List ℤ) → List Row
-rowsOf [] = []
-rowsOf (r ∷ rs) = rowOf r ∷ rowsOf rs
-
--- the rows are accepted, and their numbers are those of the table
-pub record Lent (t : List (List ℤ)) : Type 0 where
-  pub accepted : AcceptedTable (rowsOf t)
-  pub same : numbers (rowsOf t) ≡ t
-
--- ---- where x is among the rows
-
--- the lookup: the row i is dated at or before x, and the next after it
-pub record Bracket (rows : List Row) (x i : ℕ) : Type 0 where
-  pub within : i + 1 < length rows
-  pub low : dateMoment (rowAt rows i) ≤ x
-  pub high : x < dateMoment (rowAt rows (i + 1))
-
-pub record Inside (a b : Row) (x : ℕ) : Type 0 where
-  pub low : dateMoment a ≤ x
-  pub high : x < dateMoment b
-
--- what a place has when it is one of an accepted table
-abbrev pub Placed : Place → ℕ → Type 0
-Placed (End r) x = AcceptedRow r
-Placed (Between a b) x = AcceptedRow a × AcceptedRow b × Inside a b x
 
 -- ---- the steps to the offsets
 
-unfoldable pub amplitudes : Place → ℤ → Amplitudes
-amplitudes p n = record { xc = ourXC p n; xs = ourXS p n }
+-- both amplitudes at a place
+unfoldable pub amplitudes : Place → ℕ → Amplitudes
+amplitudes p x = record { xc = ourXC p x; xs = ourXS p x }
+
+-- a moment `after` microseconds after a row, before another row that is `days` later
+pub record OnTheWay (days after : ℕ) : Type 0 where
+  pub days-positive : 0 < days
+  pub days-few : days ≤ lastRowDay
+  pub less : after < days * dayMicros
 
 -- two rows' amplitudes, and a factor
 pub record MixBounds (c d : ℤ) (l : ℕ) : Type 0 where

@@ -5,6 +5,7 @@ use nutation::NutationAnswer;
 ghost use mathlib.Core.Path.{_≡_};
 ghost use lib.IntN.{natAbs};
 
+// The absolute value.
 fn magnitude(z: i64) -> u64
     ensures { λ r. ⌜ r ≡ natAbs z ⌝ }
 {
@@ -14,6 +15,7 @@ fn magnitude(z: i64) -> u64
     z as u64
 }
 
+// Writes a signed number and a newline.
 fn show(z: i64) {
     if z < 0 {
         io::write_all(STDOUT_FILENO, b"-");
@@ -22,6 +24,7 @@ fn show(z: i64) {
     io::write_all(STDOUT_FILENO, b"\n");
 }
 
+// The instant of the test case, and its three numbers.
 fn main() {
     let NutationAnswer::Nutation(o) = nutation::nutation_of(54790, 0) else {
         return;

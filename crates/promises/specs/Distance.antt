@@ -6,13 +6,13 @@ use mathlib.Core.List.{List}
 use lib.IntN.{ℤ, pos}
 use lib.ListN.{length, take, drop}
 use Rattle.instants.specs.Instants.{IsAccepted, laterDay, laterMicros}
-use Rattle.instants.specs.Moments.{sinceJ2000}
+use Rattle.instants.specs.Moments.{sinceJ2000, momentOf, since}
 use Rattle.zonal.specs.Within.{promised, Within, Answered}
 use Rattle.zonal.specs.declared.Corrections.{Corrections}
 use Rattle.record.specs.Format.{recordLength}
 use Rattle.run.specs.Run.{runRefusal, runWritten}
 use Rattle.run.specs.ReadBack.{ReadsAt}
-use Rattle.nutation.specs.Table.{builtIn}
+use Rattle.rows.specs.BuiltIn.{builtIn}
 use Rattle.nutation.specs.Ours.{nutationOf}
 use Rattle.nutation.specs.Exact.{exactX, exactY, exactDen}
 use Rattle.nutation.specs.Claims as nutation
@@ -33,9 +33,11 @@ pub record Distance : Type 0 where
       → ReadsAt (laterDay d m (k * step)) (laterMicros m (k * step)) (take recordLength (drop (recordLength * k) (runWritten d m count step old)))
   -- a run that is not refused exists: ninety-six records a quarter of an hour apart, and a day apart, from day 54465 on
   pub some-run : (n : ℕ) → recordLength * 96 ≤ n → (runRefusal (pos 54465) 0 96 900_000_000 n ≡ 0) × (runRefusal (pos 54465) 0 96 86_400_000_000 n ≡ 0)
+  -- the moment x that the offsets are taken at stands for n: at every accepted instant it is n + 5 N
+  pub moment-counts : (d : ℤ) (m : ℕ) → IsAccepted d m → since (momentOf d m) ≡ sinceJ2000 d m
   -- (f) every accepted instant is answered by two offsets within 2 nanoarcseconds of the exact ones, and the exact uncertainty
-  pub offsets-near : (d : ℤ) (m : ℕ) → IsAccepted d m → (o : Offsets) × (nutationOf d m ≡ Nutation o) × OffsetsNear builtIn (sinceJ2000 d m) o
+  pub offsets-near : (d : ℤ) (m : ℕ) → IsAccepted d m → (o : Offsets) × (nutationOf d m ≡ Nutation o) × OffsetsNear builtIn (momentOf d m) o
   -- no constant offset would do
   pub offsets-vary : (c : ℤ)
-      → (((d : ℤ) (m : ℕ) → IsAccepted d m → nutation.Within c (exactX builtIn (sinceJ2000 d m)) (exactDen builtIn (sinceJ2000 d m))) → ⊥)
-      × (((d : ℤ) (m : ℕ) → IsAccepted d m → nutation.Within c (exactY builtIn (sinceJ2000 d m)) (exactDen builtIn (sinceJ2000 d m))) → ⊥)
+      → (((d : ℤ) (m : ℕ) → IsAccepted d m → nutation.Within c (exactX builtIn (momentOf d m)) (exactDen builtIn (momentOf d m))) → ⊥)
+      × (((d : ℤ) (m : ℕ) → IsAccepted d m → nutation.Within c (exactY builtIn (momentOf d m)) (exactDen builtIn (momentOf d m))) → ⊥)

@@ -6,8 +6,9 @@ use Rattle.clock.specs.Words.{splitOf, joinOf}
 use Rattle.bigendian.specs.Numbers.{wordSum}
 use Rattle.record.specs.Format.{recordBytes}
 use Rattle.record.specs.Records.{formRefusal, readOf}
-use Rattle.nutation.specs.Table.{builtIn}
-use Rattle.nutation.specs.Exact.{rowDate, started, place, span, value, uValue, uParts, uncertaintyAt}
+use Rattle.rows.specs.BuiltIn.{builtIn}
+use Rattle.rows.specs.Places.{started, place}
+use Rattle.nutation.specs.Exact.{span, value, uValue, uParts, uncertaintyAt}
 use Rattle.nutation.specs.Ours.{offsetsAt, nutationOf}
 use Rattle.reference.specs.Rows.{Says, EveryRow, rows}
 
@@ -18,5 +19,5 @@ a ▹ b = (a, b)
 
 -- PROMISE. Every row of the list of reference values holds.
 pub every-row : EveryRow rows
-unfolding EveryRow Says rows outside dayIndex acceptance leapYear monthLengths monthLength sum yearLength daysOfYears daysBefore dateIndex dayAtIndex dayOf splitOf joinOf wordSum recordBytes formRefusal readOf builtIn rowDate started place span value uValue uParts uncertaintyAt offsetsAt nutationOf
+unfolding EveryRow Says rows outside dayIndex acceptance leapYear monthLengths monthLength sum yearLength daysOfYears daysBefore dateIndex dayAtIndex dayOf splitOf joinOf wordSum recordBytes formRefusal readOf builtIn started place span value uValue uParts uncertaintyAt offsetsAt nutationOf
 every-row = refl ▹ refl ▹ refl ▹ refl ▹ refl ▹ refl ▹ refl ▹ refl ▹ refl ▹ refl ▹ refl ▹ (refl, refl) ▹ refl ▹ refl ▹ refl ▹ refl ▹ tt

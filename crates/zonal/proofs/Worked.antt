@@ -2,17 +2,15 @@
 -- Assumes nothing.
 use mathlib.Core.Path.{_≡_, refl, ap, subst}
 use mathlib.Core.Bool.{_&&_}
-use Prim.Native.Nat.{ℕ, _+_, _*_, _≤_, _<_}
+use Prim.Native.Nat.{ℕ, _+_}
 use native.Mathlib.Nat as N
-use native.Mathlib.Omega.{arith}
 use lib.Dec.{T, lit≤}
-use lib.IntN.{ℤ, pos, _-ℤ_, _*ℤ_, natAbs, pow, one}
+use lib.IntN.{ℤ, pos, _*ℤ_, pow, one}
 use lib.Signed.{quotZ}
 use Rattle.algebra.specs.Integers.{+_, −_}
 use Rattle.algebra.specs.Near.{Near}
 use Rattle.algebra.proofs.Polynomial.{eqℤ}
-use Rattle.algebra.proofs.Ring.{end, _▸_, ring, quote}
-use Rattle.algebra.proofs.Near.{near-as, near-sym, near-trans, near-unscale}
+use Rattle.algebra.proofs.Near.{near-one-fraction, near-two-apart}
 use Rattle.instants.specs.Instants.{outside, dayIndex, acceptance, IsAccepted}
 use Rattle.instants.specs.Moments.{sinceJ2000}
 use Rattle.sine.specs.Exact.{S, sineDen, wholeTurn, exactSine, exactCosine}
@@ -64,17 +62,7 @@ case-answered = rw (accepted-given (+ 54465) 0 case-accepted) (ap Zonal our-case
 
 -- ---- constants
 
--- two numbers near one exact sum are near one another
-numbers-near : (D a b : ℕ) (x y z : ℤ) → 0 < D → Near (x *ℤ pos D) z (a * D) → Near (y *ℤ pos D) z (b * D) → Near x y (a + b)
-numbers-near D a b x y z h n m = near-unscale D (near-as (near-trans n (near-sym m)) (alg x (pos D)) (alg y (pos D)) (error a b D)) h
-  where
-    alg : (x d : ℤ) → d *ℤ x ≡ x *ℤ d
-    alg x d = ring (x ▸ d ▸ end) (search quote depth 13) tt
-
-    error : (a b d : ℕ) → a * d + b * d ≤ d * (a + b) + 0
-    error a b d = omega arith
-
--- so numbers within the promised distances are near ours
+-- numbers within the promised distances are near ours, since both are near the exact sums
 pub record NearOurs (c : Corrections) (a b r : ℤ) : Type 0 where
   pub ut1 : Near (c .ut1) a (promised .ut1 + proved .ut1)
   pub lod : Near (c .lod) b (promised .lod + proved .lod)
@@ -84,9 +72,9 @@ near-ours : (d : ℤ) (m : ℕ) (c : Corrections) (a b r : ℤ) → IsAccepted d
 near-ours d m c a b r h e w =
     let o : Within proved (sinceJ2000 d m) (corrections a b r) = subst (λ (s : Corrections). Within proved (sinceJ2000 d m) s) e (accepted-near d m h) in
     record {
-      ut1 = numbers-near denominator (promised .ut1) (proved .ut1) (c .ut1) a (exactUt1 (sinceJ2000 d m)) (w .positive) (w .ut1) (o .ut1);
-      lod = numbers-near denominator (promised .lod) (proved .lod) (c .lod) b (exactLod (sinceJ2000 d m)) (w .positive) (w .lod) (o .lod);
-      rate = numbers-near denominator (promised .rate) (proved .rate) (c .rate) r (exactRate (sinceJ2000 d m)) (w .positive) (w .rate) (o .rate);
+      ut1 = near-one-fraction (promised .ut1) (proved .ut1) (w .positive) (w .ut1) (o .ut1);
+      lod = near-one-fraction (promised .lod) (proved .lod) (w .positive) (w .lod) (o .lod);
+      rate = near-one-fraction (promised .rate) (proved .rate) (w .positive) (w .rate) (o .rate);
     }
 
 case-near : (c : Corrections) → Within promised (sinceJ2000 (+ 54465) 0) c → NearOurs c (+ 79832877) (+ 50353031) (− 4249712)
@@ -97,19 +85,15 @@ next-near : (c : Corrections) → Within promised (sinceJ2000 (+ 54466) 0) c →
 unfolding dayIndex
 next-near c w = near-ours (+ 54466) 0 c (+ 79837323) (− 67358353) (+ 5684997) next-accepted our-next w
 
--- one number is not near two that are far apart
-apart : {e : ℕ} (x y z : ℤ) → Near x y e → Near x z e → e + e < natAbs (y -ℤ z) → ⊥
-apart x y z n m h = N.lt-irrefl _ (N.lt-of-lt-of-le h (near-trans (near-sym n) m .by))
-
 -- PROMISE. Numbers within the promised distances on day 54465 and on day 54466, at microsecond 0, differ in each of the three: no constant is within them.
 pub no-constant : (c c′ : Corrections) → Within promised (sinceJ2000 (+ 54465) 0) c → Within promised (sinceJ2000 (+ 54466) 0) c′
     → (c .ut1 ≡ c′ .ut1 → ⊥) × (c .lod ≡ c′ .lod → ⊥) × (c .rate ≡ c′ .rate → ⊥)
 no-constant c c′ w w′ =
     let n : NearOurs c (+ 79832877) (+ 50353031) (− 4249712) = case-near c w in
     let m : NearOurs c′ (+ 79837323) (− 67358353) (+ 5684997) = next-near c′ w′ in (
-      λ e. apart (c .ut1) (+ 79832877) (+ 79837323) (n .ut1) (rw e (m .ut1)) (lit≤ tt),
-      λ e. apart (c .lod) (+ 50353031) (− 67358353) (n .lod) (rw e (m .lod)) (lit≤ tt),
-      λ e. apart (c .rate) (− 4249712) (+ 5684997) (n .rate) (rw e (m .rate)) (lit≤ tt),
+      λ e. near-two-apart (rw e at (n .ut1)) (m .ut1) (lit≤ tt),
+      λ e. near-two-apart (rw e at (n .lod)) (m .lod) (lit≤ tt),
+      λ e. near-two-apart (rw e at (n .rate)) (m .rate) (lit≤ tt),
     )
 
 -- zeros are not within the promised distances on day 54465

@@ -22,7 +22,7 @@ div-result c = search needs
 returns : tie.Need-returns
 returns c = (
   factor-steps (c .args .after) (c .args .days),
-  le-trans (le-of-eq (factor-steps (c .args .after) (c .args .days))) (factor-le (c .args .after) (c .args .days * dayMicros) (c .pre .2)),
+  le-trans (le-of-eq (factor-steps (c .args .after) (c .args .days))) (factor-le (c .args .after) (c .args .days * dayMicros) (c .pre .less)),
 )
 
 pub factor-of-spec : {M : Type 1} → statement M

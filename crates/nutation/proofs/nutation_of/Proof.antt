@@ -1,35 +1,53 @@
--- `nutation::nutation_of` meets its contract: by the two cases of acceptance. Assumes nothing.
-use mathlib.Core.Path.{_≡_, sym, _∙_, ap, ap₂}
-use mathlib.Core.List.{List}
+-- `nutation::nutation_of` meets its contract, by the two cases of acceptance: the refusal is handed on, and of an accepted instant the moment is that of
+-- its day's index and its place one of the built-in rows. Assumes nothing.
+use mathlib.Core.Path.{_≡_, sym, _∙_, ap, subst}
+use Prim.Native.Nat.{ℕ}
 use native.Mathlib.Nat.{le-trans, le-of-eq}
 use native.Mathlib.Omega.{arith}
 use lib.IntN.{ℤ}
 use mir.Facts.{toZ-ofZ}
 use Rattle.instants.specs.Instants.{acceptance}
+use Rattle.instants.specs.Moments.{moment}
 use Rattle.instants.specs.declared.Acceptance.the-variants.{Accepted}
 use Rattle.instants.proofs.Accepted.{AcceptedAt, accepted-at, refused-too, answered-too}
-use Rattle.instants.specs.Moments.{moment, since}
 use Rattle.instants.proofs.Moments.{moment-le}
-use Rattle.nutation.specs.declared.Row.{Row}
+use Rattle.rows.specs.declared.Place.{Place}
+use Rattle.rows.specs.BuiltIn.{builtIn}
+use Rattle.rows.specs.Places.{place}
+use Rattle.rows.specs.Inner.{Placed}
+use Rattle.rows.proofs.Accepted.{builtIn-accepted}
+use Rattle.rows.proofs.Places.{placed}
 use Rattle.nutation.specs.declared.NutationAnswer.the-variants.{Nutation, NoNutation}
-use Rattle.nutation.specs.Table.{builtIn}
-use Rattle.nutation.specs.Exact.{place}
 use Rattle.nutation.specs.Ours.{offsetsAt, nutationOf}
-use Rattle.nutation.specs.Inner.{numbers}
-use Rattle.nutation.proofs.Time.{instant-is}
-use Rattle.nutation.proofs.Accepted.{builtIn-accepted, lent, builtIn-rows}
 use borrow.Author.Needs.{needs}
 use Rattle.nutation.proofs.nutation_of.Statement.{statement}
 use Rattle.nutation.proofs.nutation_of.Tie as tie
 
--- the instant is accepted, and its day has the index i
-says : (c : tie.After-t) → let s = c .before .before .before .before .before in acceptance (s .args .day) (s .args .micros) ≡ Accepted (c .before .before .i .given .0 .0)
-says c =
-    let s = c .before .before .before .before .before in
-    sym (c .before .before .before .before .accept .ensures ∙ ap (λ (d : ℤ). acceptance d (s .args .micros)) (toZ-ofZ (s .fits .day))) ∙ c .before .before .i .given .1
+says : (c : tie.After-accept) → c .accept .result ≡ acceptance (c .before .args .day) (c .before .args .micros)
+says c = c .accept .ensures ∙ ap (λ (d : ℤ). acceptance d (c .before .args .micros)) (toZ-ofZ (c .before .fits .day))
 
-known : (c : tie.After-t) → let s = c .before .before .before .before .before in AcceptedAt (s .args .day) (s .args .micros) (c .before .before .i .given .0 .0)
-known c = let s = c .before .before .before .before .before in accepted-at (s .args .day) (s .args .micros) _ (says c)
+-- ---- where the instant is accepted, and its day has the index i
+
+module _ (c : tie.After-known-told2) where
+  abbrev asked : tie.After-accept
+  asked = c .before .before .before
+
+  abbrev day : ℤ
+  day = asked .before .args .day
+
+  abbrev micros : ℕ
+  micros = asked .before .args .micros
+
+  abbrev i : ℕ
+  i = c .before .i .given .0 .0
+
+  found : acceptance day micros ≡ Accepted i
+  found = sym (says asked) ∙ c .before .i .given .1
+
+  known : AcceptedAt day micros i
+  known = accepted-at day micros i found
+
+-- ---- the needs
 
 accept-requires : tie.Need-accept-requires
 accept-requires c κs = search needs
@@ -40,29 +58,31 @@ enum-known-n c = search needs
 enum-known-i : tie.Need-enum-known-i
 enum-known-i c = search needs
 
-slice-aggregate-offsets-at : tie.Need-slice-aggregate-offsets-at
-slice-aggregate-offsets-at c = search needs
-
 moment-requires : tie.Need-moment-requires
 moment-requires c κs = (omega (arith, known c .high), known c .less)
 
-offsets-at-requires : tie.Need-offsets-at-requires
-unfolding numbers builtIn
-offsets-at-requires c κs = (lent builtIn builtIn-accepted, le-trans (le-of-eq (c .moment .ensures)) (moment-le _ _ (omega (arith, known (c .before) .high)) (known (c .before) .less)))
+built-in-place-requires : tie.Need-built-in-place-requires
+built-in-place-requires c κs = search needs
+
+offsets-of-requires : tie.Need-offsets-of-requires
+offsets-of-requires c κs =
+    let m = c .before in
+    let k = known (m .before) in (
+      subst (λ (p : Place). Placed p (m .moment .result)) (sym (c .built-in-place .ensures)) (placed builtIn builtIn-accepted (m .moment .result)),
+      le-trans (le-of-eq (m .moment .ensures)) (moment-le _ _ (omega (arith, k .high)) (k .less)),
+    )
 
 returns : tie.Need-returns
 unfolding nutationOf
-returns c =
-    let s = c .before .before .before .before in
-    refused-too NoNutation _ _ _ (sym (c .before .before .before .accept .ensures ∙ ap (λ (d : ℤ). acceptance d (s .args .micros)) (toZ-ofZ (s .fits .day))) ∙ c .before .n .given .1)
+returns c = refused-too NoNutation _ _ _ (sym (says (c .before .before .before)) ∙ c .before .n .given .1)
 
 returns-2 : tie.Need-returns-2
-unfolding nutationOf numbers builtIn
+unfolding nutationOf
 returns-2 c =
-    let a = c .before .before in
-    let s = a .before .before .before .before .before in
-    ap Nutation (c .offsets-at .ensures ∙ ap₂ (λ (rows : List Row) (n : ℤ). offsetsAt (place rows n) n) builtIn-rows (ap since (c .before .moment .ensures) ∙ sym (instant-is (s .args .day) _ (s .args .micros) (known a .is))))
-    ∙ answered-too NoNutation _ _ _ (says a)
+    let m = c .before .before in
+    let e : m .moment .result ≡ moment _ (micros (m .before)) = m .moment .ensures ∙ ap (λ (i : ℕ). moment i (micros (m .before))) (sym (known (m .before) .index)) in
+    ap Nutation (c .offsets-of .ensures ∙ ap (λ (p : Place). offsetsAt p (m .moment .result)) (c .before .built-in-place .ensures) ∙ ap (λ (x : ℕ). offsetsAt (place builtIn x) x) e)
+    ∙ answered-too NoNutation _ _ _ (found (m .before))
 
 pub nutation-of-spec : {M : Type 1} → statement M
 nutation-of-spec =
@@ -71,8 +91,8 @@ nutation-of-spec =
     accept-requires
     enum-known-n
     enum-known-i
-    slice-aggregate-offsets-at
     moment-requires
-    offsets-at-requires
+    built-in-place-requires
+    offsets-of-requires
     returns
     returns-2)

@@ -1,5 +1,6 @@
--- `nutation::offsets_of` meets its contract: the amplitudes are within 1000 microarcseconds, and the angle is below a turn. Assumes nothing.
-use mathlib.Core.Path.{_≡_, sym, _∙_, ap}
+-- `nutation::offsets_of` meets its contract: the amplitudes are within 1000 microarcseconds and the angle is below a turn, so that no product passes 64
+-- bits, and what the machine reads back of each signed number is that number. Assumes nothing.
+use mathlib.Core.Path.{_≡_, _∙_, ap}
 use Prim.Native.Nat.{ℕ, _%_, _^_, _≤_}
 use native.Mathlib.Nat as N
 use lib.IntN.{ℤ, pos, _-ℤ_, natAbs}
@@ -10,55 +11,73 @@ use Rattle.algebra.proofs.Order.{abs-neg}
 use Rattle.algebra.proofs.Fits.{zero-less}
 use Rattle.sine.specs.Ours.{ourSine, ourCosine}
 use Rattle.sine.proofs.Sizes.{sine-below, cosine-below}
-use Rattle.nutation.specs.declared.Place.{Place}
+use Rattle.rows.specs.declared.Place.{Place}
 use Rattle.nutation.specs.declared.Amplitudes.{Amplitudes}
 use Rattle.nutation.specs.declared.Offsets.{Offsets}
-use Rattle.nutation.specs.Ours.{momentOf, ourAngle, ourXC, ourXS, ourYS, offset, offsetsAt}
-use Rattle.instants.specs.Moments.{since}
+use Rattle.nutation.specs.Ours.{ourAngle, ourXC, ourXS, ourYS, offset, offsetsAt}
 use Rattle.nutation.specs.Inner.{amplitudes, widest}
-use Rattle.nutation.proofs.Time.{moment-back}
 use Rattle.nutation.proofs.Sizes.{amplitude-small, minus-fits, angle-less}
 use borrow.Author.Needs.{needs}
 use Rattle.nutation.proofs.offsets_of.Statement.{statement}
 use Rattle.nutation.proofs.offsets_of.Tie as tie
 
-abbrev place : tie.After-sine → Place
-place c = c .before .before .before .before .args .p
+-- ---- behind the sine: the place, the moment, the angle, and what the callees gave
 
-abbrev n : tie.After-sine → ℤ
-n c = since (c .before .before .before .before .args .x)
+module _ (c : tie.After-sine) where
+  abbrev entry : tie.Start
+  entry = c .before .before .before .before
 
-abbrev angle : tie.After-sine → ℕ
-angle c = ourAngle (momentOf (n c))
+  abbrev place : Place
+  place = entry .args .p
 
--- what the machine reads back of the amplitudes, the cosine and the sine
-xc-is : (c : tie.After-sine) → toZ w64 (ofZ w64 (c .before .before .before .amplitudes-at .result .xc)) ≡ ourXC (place c) (n c)
-unfolding amplitudes
-xc-is c = let f : SFits w64 (c .before .before .before .amplitudes-at .result .xc) = search needs in toZ-ofZ f ∙ ap (λ (q : Amplitudes). q .xc) (c .before .before .before .amplitudes-at .ensures)
+  abbrev x : ℕ
+  x = entry .args .x
 
-xs-is : (c : tie.After-sine) → toZ w64 (ofZ w64 (c .before .before .before .amplitudes-at .result .xs)) ≡ ourXS (place c) (n c)
-unfolding amplitudes
-xs-is c = let f : SFits w64 (c .before .before .before .amplitudes-at .result .xs) = search needs in toZ-ofZ f ∙ ap (λ (q : Amplitudes). q .xs) (c .before .before .before .amplitudes-at .ensures)
+  abbrev angle : ℕ
+  angle = ourAngle x
 
-angle-is : (c : tie.After-sine) → c .before .before .angle-at .result % 2 ^ 41 ≡ angle c
-angle-is c =
-    let x = c .before .before .before .before .args .x in
-    N.mod-eq-of-lt (N.lt-of-le-of-lt (N.le-of-eq (c .before .before .angle-at .ensures)) (angle-less x)) ∙ c .before .before .angle-at .ensures ∙ ap ourAngle (sym (moment-back x))
+  abbrev given : Amplitudes
+  given = c .before .before .before .amplitudes-at .result
 
-cos-is : (c : tie.After-sine) → toZ w64 (ofZ w64 (c .before .cosine .result)) ≡ ourCosine (angle c)
-cos-is c = let f : SFits w64 (c .before .cosine .result) = search needs in toZ-ofZ f ∙ c .before .cosine .ensures ∙ ap ourCosine (angle-is c)
+  given-is : given ≡ amplitudes place x
+  given-is = c .before .before .before .amplitudes-at .ensures
 
-sin-is : (c : tie.After-sine) → toZ w64 (ofZ w64 (c .sine .result)) ≡ ourSine (angle c)
-sin-is c = let f : SFits w64 (c .sine .result) = search needs in toZ-ofZ f ∙ c .sine .ensures ∙ ap ourSine (angle-is c)
+  -- what the machine reads back of the amplitudes, the cosine and the sine
+  xc-is : toZ w64 (ofZ w64 (given .xc)) ≡ ourXC place x
+  unfolding amplitudes
+  xc-is = let f : SFits w64 (given .xc) = search needs in toZ-ofZ f ∙ ap (λ (q : Amplitudes). q .xc) given-is
 
-xc-small : (c : tie.After-sine) → natAbs (ourXC (place c) (n c)) ≤ widest
-xc-small c = amplitude-small (λ r. r .xc) (λ r a. a .xc-small) (place c) (c .before .before .before .before .args .x) (c .before .before .before .before .pre .0)
+  xs-is : toZ w64 (ofZ w64 (given .xs)) ≡ ourXS place x
+  unfolding amplitudes
+  xs-is = let f : SFits w64 (given .xs) = search needs in toZ-ofZ f ∙ ap (λ (q : Amplitudes). q .xs) given-is
 
-xs-small : (c : tie.After-sine) → natAbs (ourXS (place c) (n c)) ≤ widest
-xs-small c = amplitude-small (λ r. r .xs) (λ r a. a .xs-small) (place c) (c .before .before .before .before .args .x) (c .before .before .before .before .pre .0)
+  angle-is : c .before .before .angle-at .result % 2 ^ 41 ≡ angle
+  angle-is = let e = c .before .before .angle-at .ensures in N.mod-eq-of-lt (N.lt-of-le-of-lt (N.le-of-eq e) (angle-less x)) ∙ e
 
-ys-is : (c : tie.After-sine) → toZ w64 (ofZ w64 (pos 0 -ℤ ourXC (place c) (n c))) ≡ ourYS (place c) (n c)
-ys-is c = toZ-ofZ (minus-fits (ourXC (place c) (n c)) (xc-small c)) ∙ zero-less (ourXC (place c) (n c))
+  cos-is : toZ w64 (ofZ w64 (c .before .cosine .result)) ≡ ourCosine angle
+  cos-is = let f : SFits w64 (c .before .cosine .result) = search needs in toZ-ofZ f ∙ c .before .cosine .ensures ∙ ap ourCosine angle-is
+
+  sin-is : toZ w64 (ofZ w64 (c .sine .result)) ≡ ourSine angle
+  sin-is = let f : SFits w64 (c .sine .result) = search needs in toZ-ofZ f ∙ c .sine .ensures ∙ ap ourSine angle-is
+
+  xc-small : natAbs (ourXC place x) ≤ widest
+  xc-small = amplitude-small (λ r. r .xc) (λ r a. a .xc-small) place x (entry .pre .0)
+
+  xs-small : natAbs (ourXS place x) ≤ widest
+  xs-small = amplitude-small (λ r. r .xs) (λ r a. a .xs-small) place x (entry .pre .0)
+
+  ys-is : toZ w64 (ofZ w64 (pos 0 -ℤ ourXC place x)) ≡ ourYS place x
+  ys-is = toZ-ofZ (minus-fits (ourXC place x) xc-small) ∙ zero-less (ourXC place x)
+
+  ys-small : natAbs (ourYS place x) ≤ widest
+  ys-small = N.le-trans (N.le-of-eq (abs-neg (ourXC place x))) xc-small
+
+-- from behind each offset
+abbrev waves : tie.After-offset-of → tie.After-sine
+waves c = c .before .before .before
+
+abbrev first : tie.After-offset-of2 → tie.After-offset-of
+first c = c .before .before .before .before
 
 -- the same numbers
 same : {c c′ s s′ u u′ v v′ : ℤ} → c ≡ c′ → s ≡ s′ → u ≡ u′ → v ≡ v′ → offset c s u v ≡ offset c′ s′ u′ v′
@@ -69,6 +88,8 @@ all x y u = record { x = x; y = y; uncertainty = u }
 
 three : {x x′ y y′ : ℤ} {u u′ : ℕ} → x ≡ x′ → y ≡ y′ → u ≡ u′ → all x y u ≡ all x′ y′ u′
 three p q r = cc
+
+-- ---- the needs
 
 amplitudes-at-requires : tie.Need-amplitudes-at-requires
 amplitudes-at-requires c κs = search needs
@@ -83,16 +104,17 @@ sine-requires : tie.Need-sine-requires
 sine-requires c κs = search needs
 
 offset-of-requires : tie.Need-offset-of-requires
-offset-of-requires c κs = let a = c .before .before in rw (xc-is a, xs-is a, cos-is a, sin-is a) (record { c-small = xc-small a; s-small = xs-small a; cos-small = cosine-below (angle a); sin-small = sine-below (angle a) })
+offset-of-requires c κs =
+    let a = c .before .before in
+    rw (xc-is a, xs-is a, cos-is a, sin-is a) (record { c-small = xc-small a; s-small = xs-small a; cos-small = cosine-below (angle a); sin-small = sine-below (angle a) })
 
 sub-offset-of : tie.Need-sub-offset-of
-sub-offset-of c = let a = c .before .before .before .before .before in rw (xc-is a) (minus-fits (ourXC (place a) (n a)) (xc-small a))
+sub-offset-of c = let a = waves (c .before .before) in rw (xc-is a) (minus-fits (ourXC (place a) (x a)) (xc-small a))
 
 offset-of-requires-2 : tie.Need-offset-of-requires-2
 offset-of-requires-2 c κs =
-    let a = c .before .before .before .before .before .before in
-    rw (xc-is a, xs-is a, cos-is a, sin-is a, ys-is a)
-    (record { c-small = xs-small a; s-small = N.le-trans (N.le-of-eq (abs-neg (ourXC (place a) (n a)))) (xc-small a); cos-small = cosine-below (angle a); sin-small = sine-below (angle a) })
+    let a = waves (c .before .before .before) in
+    rw (xc-is a, xs-is a, cos-is a, sin-is a, ys-is a) (record { c-small = xs-small a; s-small = ys-small a; cos-small = cosine-below (angle a); sin-small = sine-below (angle a) })
 
 uncertainty-of-requires : tie.Need-uncertainty-of-requires
 uncertainty-of-requires c κs = search needs
@@ -100,11 +122,12 @@ uncertainty-of-requires c κs = search needs
 returns : tie.Need-returns
 unfolding offsetsAt
 returns c =
-    let a = c .before .before .before .before .before .before .before .before in
-    let x : SFits w64 (c .before .before .before .before .before .offset-of .result) = search needs in
-    let y : SFits w64 (c .before .offset-of2 .result) = search needs in
-    three (toZ-ofZ x ∙ c .before .before .before .before .before .offset-of .ensures ∙ same (xc-is a) (xs-is a) (cos-is a) (sin-is a))
-    (toZ-ofZ y ∙ c .before .offset-of2 .ensures ∙ same (xs-is a) (ap (λ (z : ℤ). toZ w64 (ofZ w64 (pos 0 -ℤ z))) (xc-is a) ∙ ys-is a) (cos-is a) (sin-is a)) (c .uncertainty-of .ensures)
+    let f = first (c .before) in
+    let a = waves f in
+    let fx : SFits w64 (f .offset-of .result) = search needs in
+    let fy : SFits w64 (c .before .offset-of2 .result) = search needs in
+    three (toZ-ofZ fx ∙ f .offset-of .ensures ∙ same (xc-is a) (xs-is a) (cos-is a) (sin-is a))
+    (toZ-ofZ fy ∙ c .before .offset-of2 .ensures ∙ same (xs-is a) (ap (λ (z : ℤ). toZ w64 (ofZ w64 (pos 0 -ℤ z))) (xc-is a) ∙ ys-is a) (cos-is a) (sin-is a)) (c .uncertainty-of .ensures)
 
 pub offsets-of-spec : {M : Type 1} → statement M
 offsets-of-spec =

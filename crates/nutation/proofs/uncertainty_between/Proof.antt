@@ -1,4 +1,4 @@
--- `nutation::uncertainty_between` meets its contract. Assumes nothing.
+-- `nutation::uncertainty_between` meets its contract: the way between the rows is that of the definition (`between-is`). Assumes nothing.
 use mathlib.Core.Path.{sym, _∙_, ap}
 use Prim.Native.Nat.{ℕ, _*_, _-_}
 use Rattle.instants.specs.Limits.{dayMicros}
@@ -11,8 +11,8 @@ use Rattle.nutation.proofs.uncertainty_between.Tie as tie
 sub-uncertainty-mixed : tie.Need-sub-uncertainty-mixed
 sub-uncertainty-mixed c = search needs
 
-date-of-requires : tie.Need-date-of-requires
-date-of-requires c κs = search needs
+row-moment-requires : tie.Need-row-moment-requires
+row-moment-requires c κs = search needs
 
 sub-uncertainty-mixed-2 : tie.Need-sub-uncertainty-mixed-2
 sub-uncertainty-mixed-2 c = search needs
@@ -24,7 +24,7 @@ returns : tie.Need-returns
 returns c =
     let s = c .before .before .before .before in
     c .uncertainty-mixed .ensures
-    ∙ ap (λ (k : ℕ). twiceBetween (s .args .a .uncertainty) (s .args .b .uncertainty) ((s .args .b .day - s .args .a .day) * dayMicros) (s .args .x - k)) (c .before .date-of .ensures)
+    ∙ ap (λ (k : ℕ). twiceBetween (s .args .a .uncertainty) (s .args .b .uncertainty) ((s .args .b .day - s .args .a .day) * dayMicros) (s .args .x - k)) (c .before .row-moment .ensures)
     ∙ sym (between-is (s .args .a) (s .args .b) (s .args .x) (s .pre .2))
 
 pub uncertainty-between-spec : {M : Type 1} → statement M
@@ -32,7 +32,7 @@ uncertainty-between-spec =
     tie.close
     (tie.spec
     sub-uncertainty-mixed
-    date-of-requires
+    row-moment-requires
     sub-uncertainty-mixed-2
     uncertainty-mixed-requires
     returns)

@@ -3,8 +3,8 @@ use mathlib.Core.Path.{_≡_, sym, _∙_, ap}
 use Prim.Native.Nat.{ℕ, _+_, _*_}
 use Rattle.instants.specs.Limits.{dayMicros}
 use Rattle.algebra.specs.Integers.{dist}
+use Rattle.rows.specs.Places.{rowMoment}
 use Rattle.nutation.specs.Exact.{roundUp}
-use Rattle.nutation.specs.Inner.{dateMoment}
 use Rattle.nutation.proofs.Rounding.{end-is}
 use borrow.Author.Needs.{needs}
 use Rattle.nutation.proofs.uncertainty_end.Statement.{statement}
@@ -13,8 +13,8 @@ use Rattle.nutation.proofs.uncertainty_end.Tie as tie
 mul-result : tie.Need-mul-result
 mul-result c = search needs
 
-date-of-requires : tie.Need-date-of-requires
-date-of-requires c κs = search needs
+row-moment-requires : tie.Need-row-moment-requires
+row-moment-requires c κs = search needs
 
 apart-requires : tie.Need-apart-requires
 apart-requires c κs = search needs
@@ -31,7 +31,7 @@ add-result c = search needs
 returns : tie.Need-returns
 returns c =
     let s = c .before .before .before .before in
-    let q : c .before .apart .result ≡ dist (s .args .x) (dateMoment (s .args .r)) = c .before .apart .ensures ∙ ap (λ (k : ℕ). dist (s .args .x) k) (c .before .before .date-of .ensures) in
+    let q : c .before .apart .result ≡ dist (s .args .x) (rowMoment (s .args .r)) = c .before .apart .ensures ∙ ap (λ (k : ℕ). dist (s .args .x) k) (c .before .before .row-moment .ensures) in
     ap (λ (k : ℕ). 20 * s .args .r .uncertainty + k) (c .round-up .ensures ∙ ap (λ (k : ℕ). roundUp (265 * k) dayMicros) q) ∙ sym (end-is (s .args .r) (s .args .x))
 
 pub uncertainty-end-spec : {M : Type 1} → statement M
@@ -39,7 +39,7 @@ uncertainty-end-spec =
     tie.close
     (tie.spec
     mul-result
-    date-of-requires
+    row-moment-requires
     apart-requires
     mul-round-up
     round-up-requires

@@ -9,11 +9,12 @@ use lib.Dec.{T, leb, ltb, leb→le, ltb→lt, lit≤}
 use lib.ListN.{length, getD}
 use lib.IntN.{ℤ, natAbs}
 use Rattle.algebra.proofs.Tests.{and-split, every, each}
-use Rattle.nutation.specs.declared.Row.{Row}
-use Rattle.nutation.specs.Table.{row, rowAt, firstRowDay, lastRowDay, largest, AcceptedRow, AcceptedTable, builtIn}
-use Rattle.nutation.specs.Inner.{numbersOf, numbers, rowsOf, Lent}
+use Rattle.rows.specs.declared.Row.{Row}
+use Rattle.rows.specs.Table.{row, rowAt, firstRowDay, lastRowDay, largest, AcceptedRow, AcceptedTable}
+use Rattle.rows.specs.BuiltIn.{builtIn}
+use Rattle.rows.specs.Inner.{numbersOf, numbers, rowsOf, Lent}
 
--- ---- the test
+-- ---- the test: each row's limits, and rising days
 
 abbrev pub limits : Row → List Bool
 limits r =
@@ -42,8 +43,8 @@ row-of r t =
       to = leb→le (r .day) lastRowDay (h 1);
       xc-small = leb→le (natAbs (r .xc)) largest (h 2);
       xs-small = leb→le (natAbs (r .xs)) largest (h 3);
-      some = leb→le 1 (r .uncertainty) (h 4);
-      small = leb→le (r .uncertainty) largest (h 5);
+      uncertainty-positive = leb→le 1 (r .uncertainty) (h 4);
+      uncertainty-small = leb→le (r .uncertainty) largest (h 5);
     }
 
 rising-of : (rows : List Row) → T (rises rows) → (i : ℕ) → suc i < length rows → rowAt rows i .day < rowAt rows (suc i) .day
@@ -65,7 +66,7 @@ pub builtIn-accepted : AcceptedTable builtIn
 unfolding builtIn
 builtIn-accepted = accepted-of builtIn (lit≤ tt) (lit≤ tt) tt tt
 
--- ---- a table that is lent
+-- ---- a table that is lent: its rows, read from their numbers and written back
 
 rows-back : (rows : List Row) → rowsOf (numbers rows) ≡ rows
 unfolding rowsOf numbers

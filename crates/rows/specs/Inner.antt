@@ -1,0 +1,58 @@
+-- What only the contracts of the code's own functions cite, here and in nutation.
+-- Assumes nothing.
+use mathlib.Core.Path.{_≡_}
+use mathlib.Core.List.{List, [], _∷_}
+use Prim.Native.Nat.{ℕ, _+_, _-_, _≤_, _<_}
+use lib.IntN.{ℤ, pos, natAbs}
+use lib.ListN.{length, getD}
+use Rattle.rows.specs.declared.Row.{Row}
+use Rattle.rows.specs.declared.Place.{Place}
+use Rattle.rows.specs.declared.Place.the-variants.{End, Between}
+use Rattle.rows.specs.Table.{row, rowAt, AcceptedRow, AcceptedTable}
+use Rattle.rows.specs.Places.{rowMoment}
+
+-- ---- a table that is lent: rows of four numbers
+
+-- the numbers of rows
+abbrev pub numbersOf : Row → List ℤ
+numbersOf r = pos (r .day) ∷ r .xc ∷ r .xs ∷ pos (r .uncertainty) ∷ []
+
+unfoldable pub numbers : List Row → List (List ℤ)
+numbers [] = []
+numbers (r ∷ rs) = numbersOf r ∷ numbers rs
+
+-- the rows of numbers
+abbrev pub rowOf : List ℤ → Row
+rowOf r = row (natAbs (getD r 0 (pos 0))) (getD r 1 (pos 0)) (getD r 2 (pos 0)) (natAbs (getD r 3 (pos 0)))
+
+unfoldable pub rowsOf : List (List ℤ) → List Row
+rowsOf [] = []
+rowsOf (r ∷ rs) = rowOf r ∷ rowsOf rs
+
+-- the rows are accepted, and their numbers are those of the table
+pub record Lent (t : List (List ℤ)) : Type 0 where
+  pub accepted : AcceptedTable (rowsOf t)
+  pub same : numbers (rowsOf t) ≡ t
+
+-- ---- where x is among the rows
+
+-- x is neither before the first row's date nor at or after the last row's
+pub record Amid (rows : List Row) (x : ℕ) : Type 0 where
+  pub low : rowMoment (rowAt rows 0) ≤ x
+  pub high : x < rowMoment (rowAt rows (length rows - 1))
+
+-- the lookup: the row i is dated at or before x, and the next after it
+pub record Bracket (rows : List Row) (x i : ℕ) : Type 0 where
+  pub within : i + 1 < length rows
+  pub low : rowMoment (rowAt rows i) ≤ x
+  pub high : x < rowMoment (rowAt rows (i + 1))
+
+-- x is at or after the date of the row a, and before that of b
+pub record Inside (a b : Row) (x : ℕ) : Type 0 where
+  pub low : rowMoment a ≤ x
+  pub high : x < rowMoment b
+
+-- what the place of x among accepted rows has
+abbrev pub Placed : Place → ℕ → Type 0
+Placed (End r) x = AcceptedRow r
+Placed (Between a b) x = AcceptedRow a × AcceptedRow b × Inside a b x
