@@ -28,16 +28,10 @@ fn instant_refusal(a: Acceptance) -> u32
 fn refusal(day: i64, micros: u64, count: u64, step: u64, size: usize) -> u32
     ensures { λ r. ⌜ r ≡ runRefusal day micros count step size ⌝ }
 {
-    if count < 1 {
+    if (count < 1) | (MOST_RECORDS < count) {
         return 17;
     }
-    if MOST_RECORDS < count {
-        return 17;
-    }
-    if step < 1 {
-        return 18;
-    }
-    if DAY_MICROS < step {
+    if (step < 1) | (DAY_MICROS < step) {
         return 18;
     }
     let start = instant_refusal(instants::accept(day, micros));

@@ -2,19 +2,17 @@
 -- input decide. Assumes nothing.
 use Prim.Native.Nat.{ℕ, _-_, _*_, _≤_}
 use mathlib.Core.Path.{_≡_, refl, ap, sym, _∙_}
-use mathlib.Core.Bool.{_||_}
 use mathlib.Core.List.{List, [], _∷_, _++_}
 use native.Mathlib.Omega.{arith}
-use lib.Dec.{ltb}
-use lib.IntN.{pos}
 use lib.ListN.{length, take, getD}
 use lib.Signed.{ltZ}
 use borrow.Author.Tests.{le-ltb}
 use Rattle.bigendian.specs.Buffers.{atFront}
 use Rattle.bigendian.proofs.Buffers.{front-take}
 use Rattle.calendar.specs.declared.DayAnswer.the-variants.{Day, NoDay}
+use Rattle.instants.specs.Limits.{lastDay}
 use Rattle.instants.specs.Refusals.{Case, case, refusedOr}
-use Rattle.calendar.specs.Dates.{monthLength, date, dateCases, dayOf}
+use Rattle.calendar.specs.Dates.{date, dateCases, dayOf}
 use Rattle.instants.proofs.FirstRefusal.{in-both, none-answered}
 use Rattle.calendar.proofs.Inverse.{there-and-back, date-range}
 use Rattle.line.specs.declared.Line.{Line}
@@ -24,7 +22,7 @@ use Rattle.line.specs.Lines.{newline, lineOf}
 use Rattle.line.proofs.Grammar.{first-bytes, no-newline}
 use Rattle.line.proofs.Newline.{after-newline}
 use Rattle.record.specs.Format.{recordLength}
-use Rattle.run.specs.Run.{mostRecords, badCount, runBytes}
+use Rattle.run.specs.Run.{mostRecords, badCount, badStep, runBytes}
 use Rattle.instants.specs.Instants.{laterDay}
 use Rattle.run.proofs.Refusals.{not-refused, between}
 use Rattle.run.proofs.Records.{run-length, run-written}
@@ -35,15 +33,13 @@ use Rattle.run_line.proofs.Answers.{IsRun, is-run, on-date}
 
 -- ---- the refusals
 
--- the refusals of a line that can apply when there is room for every count, written out a second time
+-- the refusals of a line that can apply when there is room for every count
 abbrev pub shortCases : Line → List Case
 shortCases l =
-    case 1 (ltb (l .year) 1900 || ltb 2100 (l .year))
-    ∷ case 2 (ltb (l .month) 1 || ltb 12 (l .month))
-    ∷ case 3 (ltb (l .day) 1 || ltb (monthLength (l .year) (l .month)) (l .day))
-    ∷ case 17 (ltb (l .count) 1 || ltb 96 (l .count))
-    ∷ case 18 (ltb (l .step * 1_000_000) 1 || ltb 86_400_000_000 (l .step * 1_000_000))
-    ∷ case 8 (ltZ (pos 88433) (laterDay (lineDay l) 0 ((l .count - 1) * (l .step * 1_000_000))))
+    dateCases (l .year) (l .month) (l .day)
+    ++ case 17 (badCount (l .count))
+    ∷ case 18 (badStep (l .step * second))
+    ∷ case 8 (ltZ lastDay (laterDay (lineDay l) 0 ((l .count - 1) * (l .step * second))))
     ∷ []
 
 -- PROMISE. A line of five numbers is answered by the first of these refusals that applies: 1, 2 and 3 for the date, 17 for the count, 18 for the

@@ -12,40 +12,36 @@ use mir.Syntax.{w64}
 use mir.Val.{toZ, ofZ}
 use mir.Facts.{toZ-ofZ}
 use Rattle.instants.specs.declared.Instant.{Instant}
-use Rattle.instants.specs.Limits.{lastDay}
+use Rattle.instants.specs.Limits.{lastDay, dayMicros}
 use Rattle.instants.specs.Instants.{acceptance, acceptanceRefusal, IsAccepted, laterDay, laterMicros}
 use Rattle.record.specs.Format.{recordLength}
-use Rattle.run.specs.Run.{runRefusal}
+use Rattle.run.specs.Run.{mostRecords, runRefusal}
 use Rattle.instants.specs.Inner.{laterInstant}
 use Rattle.instants.proofs.LaterInstants.{day-fits}
-use Rattle.run.proofs.Refusals.{none-accepted, later-refusal, Counted, refused-at-start, refused-later, steps-few}
+use Rattle.run.proofs.Refusals.{none-accepted, later-refusal, Counted, refused-at-start, refused-later, between, steps-few}
 use borrow.Author.Needs.{needs}
 use Rattle.run.proofs.refusal.Statement.{statement}
 use Rattle.run.proofs.refusal.Tie as tie
 
--- behind each test of a number, the place behind the test before it
-abbrev else1 : tie.Else2 → tie.Else1
-else1 c = c .before
-
-abbrev else2 : tie.Else3 → tie.Else2
-else2 c = c .before
-
-abbrev else3 : tie.Else4 → tie.Else3
-else3 c = c .before
-
--- after the four tests of numbers
+-- after the tests of the count and the step
 module _ (c : tie.After-instant-refusal) where
+  abbrev stepped : tie.Else2
+  stepped = c .before .before
+
   abbrev s : tie.Start
-  s = else1 (else2 (else3 (c .before .before))) .before
+  s = stepped .before .before
 
   says : c .instant-refusal .result ≡ acceptanceRefusal (acceptance (s .args .day) (s .args .micros))
   says = c .instant-refusal .ensures ∙ ap acceptanceRefusal (c .before .accept .ensures ∙ ap (λ (d : ℤ). acceptance d (s .args .micros)) (toZ-ofZ (s .fits .day)))
 
   counted : Counted (s .args .count) (s .args .step)
-  counted = record { count-least = omega arith; count-most = omega arith; step-least = omega arith; step-most = omega arith }
+  counted =
+      let p = between (s .args .count) 1 mostRecords (stepped .before .if1 .left) in
+      let q = between (s .args .step) 1 dayMicros (stepped .if2 .left) in
+      record { count-least = p .0; count-most = p .1; step-least = q .0; step-most = q .1 }
 
 -- after the start was found accepted
-module _ (c : tie.Else5) where
+module _ (c : tie.Else3) where
   abbrev o : tie.Start
   o = s (c .before)
 
@@ -56,11 +52,11 @@ module _ (c : tie.Else5) where
   few = steps-few (o .args .count - 1) (o .args .step) (omega (arith, counted (c .before) .count-most)) (counted (c .before) .step-most)
 
   accepted : IsAccepted (o .args .day) (o .args .micros)
-  accepted = none-accepted _ _ (sym (says (c .before)) ∙ c .if5 .left)
+  accepted = none-accepted _ _ (sym (says (c .before)) ∙ c .if3 .left)
 
 -- after the last instant was looked at
 module _ (c : tie.After-instant-refusal2) where
-  abbrev e : tie.Else5
+  abbrev e : tie.Else3
   e = c .before .before .before .before
 
   abbrev b : tie.Start
@@ -101,19 +97,11 @@ module _ (c : tie.After-instant-refusal2) where
 
 returns : tie.Need-returns
 unfolding runRefusal
-returns c = simp (lt-ltb _ _ (c .if1 .taken))
+returns c = simp (c .if1 .taken)
 
 returns-2 : tie.Need-returns-2
 unfolding runRefusal
-returns-2 c = simp (le-ltb _ _ (c .before .if1 .left), lt-ltb _ _ (c .if2 .taken))
-
-returns-3 : tie.Need-returns-3
-unfolding runRefusal
-returns-3 c = let e : tie.Else2 = c .before in simp (le-ltb _ _ (else1 e .if1 .left), le-ltb _ _ (e .if2 .left), lt-ltb _ _ (c .if3 .taken))
-
-returns-4 : tie.Need-returns-4
-unfolding runRefusal
-returns-4 c = let e : tie.Else3 = c .before in simp (le-ltb _ _ (else1 (else2 e) .if1 .left), le-ltb _ _ (else2 e .if2 .left), le-ltb _ _ (e .if3 .left), lt-ltb _ _ (c .if4 .taken))
+returns-2 c = simp (c .before .if1 .left, c .if2 .taken)
 
 accept-requires : tie.Need-accept-requires
 accept-requires c κs = search needs
@@ -121,8 +109,11 @@ accept-requires c κs = search needs
 instant-refusal-requires : tie.Need-instant-refusal-requires
 instant-refusal-requires c κs = search needs
 
-returns-5 : tie.Need-returns-5
-returns-5 c = says (c .before) ∙ refused-at-start _ _ _ _ _ (counted (c .before)) (λ z. c .if5 .taken (says (c .before) ∙ z))
+returns-3 : tie.Need-returns-3
+returns-3 c = says (c .before) ∙ refused-at-start _ _ _ _ _ (counted (c .before)) (λ z. c .if3 .taken (says (c .before) ∙ z))
+
+sub-later : tie.Need-sub-later
+sub-later c = counted (c .before) .count-least
 
 mul-later : tie.Need-mul-later
 mul-later c = record { fits = omega (arith, few c) }
@@ -136,23 +127,23 @@ accept-requires-2 c κs = search needs
 instant-refusal-requires-2 : tie.Need-instant-refusal-requires-2
 instant-refusal-requires-2 c κs = search needs
 
+returns-4 : tie.Need-returns-4
+returns-4 c = ended (c .before) (c .if4 .taken) ∙ sym (rest (c .before))
+
+mul-if5 : tie.Need-mul-if5
+mul-if5 c = omega (arith, counted (e (c .before) .before) .count-most)
+
+returns-5 : tie.Need-returns-5
+returns-5 c =
+    let l : tie.After-instant-refusal2 = c .before .before in
+    let h : short l ≡ true = lt-ltb _ _ (c .if5 .taken) in
+    sym (rest l ∙ (went-on l (c .before .if4 .left) ∙ ap (λ (x : Bool). cond x 12 0) h))
+
 returns-6 : tie.Need-returns-6
-returns-6 c = ended (c .before) (c .if6 .taken) ∙ sym (rest (c .before))
-
-mul-if7 : tie.Need-mul-if7
-mul-if7 c = search needs
-
-returns-7 : tie.Need-returns-7
-returns-7 c =
+returns-6 c =
     let l : tie.After-instant-refusal2 = c .before .before in
-    let h : short l ≡ true = lt-ltb _ _ (c .if7 .taken) in
-    sym (rest l ∙ (went-on l (c .before .if6 .left) ∙ ap (λ (x : Bool). cond x 12 0) h))
-
-returns-8 : tie.Need-returns-8
-returns-8 c =
-    let l : tie.After-instant-refusal2 = c .before .before in
-    let h : short l ≡ false = le-ltb _ _ (c .if7 .left) in
-    sym (rest l ∙ (went-on l (c .before .if6 .left) ∙ ap (λ (x : Bool). cond x 12 0) h))
+    let h : short l ≡ false = le-ltb _ _ (c .if5 .left) in
+    sym (rest l ∙ (went-on l (c .before .if4 .left) ∙ ap (λ (x : Bool). cond x 12 0) h))
 
 pub refusal-spec : {M : Type 1} → statement M
 refusal-spec =
@@ -160,16 +151,15 @@ refusal-spec =
     (tie.spec
     returns
     returns-2
-    returns-3
-    returns-4
     accept-requires
     instant-refusal-requires
-    returns-5
+    returns-3
+    sub-later
     mul-later
     later-requires
     accept-requires-2
     instant-refusal-requires-2
-    returns-6
-    mul-if7
-    returns-7
-    returns-8)
+    returns-4
+    mul-if5
+    returns-5
+    returns-6)
