@@ -67,7 +67,8 @@ const LENGTHS: [u64; 12] = [31, 28, 31, 30, 31, 30, 31, 31, 30, 31, 30, 31];
 
 // 1 in a leap year, 0 in another.
 fn leap(y: u64) -> u64
-    ensures { λ r. ⌜ (r ≡ leapDay y) × (r ≤ 1) ⌝ }
+    ensures days { λ r. ⌜ r ≡ leapDay y ⌝ }
+    ensures most { λ r. ⌜ r ≤ 1 ⌝ }
 {
     if y % 4 != 0 {
         return 0;
@@ -84,15 +85,18 @@ fn leap(y: u64) -> u64
 // The days of the k years from 1600 on.
 fn years(k: u64) -> u64
     requires { ⌜ k ≤ 801 ⌝ }
-    ensures { λ r. ⌜ (r ≡ daysOfYears k) × (r < 293300) ⌝ }
+    ensures days { λ r. ⌜ r ≡ daysOfYears k ⌝ }
+    ensures below { λ r. ⌜ r < 293300 ⌝ }
 {
     365 * k + (k + 3) / 4 + (k + 399) / 400 - (k + 99) / 100
 }
 
 // The days of the month m of the year y.
 fn month_length(y: u64, m: u64) -> u64
-    requires { ⌜ (1 ≤ m) × (m ≤ 12) ⌝ }
-    ensures { λ r. ⌜ (r ≡ monthLength y m) × (r < 32) ⌝ }
+    requires from { ⌜ 1 ≤ m ⌝ }
+    requires to { ⌜ m ≤ 12 ⌝ }
+    ensures days { λ r. ⌜ r ≡ monthLength y m ⌝ }
+    ensures below { λ r. ⌜ r < 32 ⌝ }
 {
     let i = (m - 1) as usize;
     if m == 2 {
@@ -103,8 +107,10 @@ fn month_length(y: u64, m: u64) -> u64
 
 // The days of the year y before its month m.
 fn before(y: u64, m: u64) -> u64
-    requires { ⌜ (1 ≤ m) × (m ≤ 12) ⌝ }
-    ensures { λ r. ⌜ (r ≡ daysBefore y m) × (r < 366) ⌝ }
+    requires from { ⌜ 1 ≤ m ⌝ }
+    requires to { ⌜ m ≤ 12 ⌝ }
+    ensures days { λ r. ⌜ r ≡ daysBefore y m ⌝ }
+    ensures below { λ r. ⌜ r < 366 ⌝ }
 {
     let i = (m - 1) as usize;
     if m <= 2 {
@@ -131,7 +137,8 @@ pub fn day_of(year: u64, month: u64, day: u64) -> DayAnswer
 
 // The month of the day e of a year, counted from 0.
 fn month(leap: u64, e: u64) -> u64
-    requires { ⌜ (leap ≤ 1) × (e < 365 + leap) ⌝ }
+    requires extra { ⌜ leap ≤ 1 ⌝ }
+    requires inside { ⌜ e < 365 + leap ⌝ }
     ensures { λ r. ⌜ r ≡ monthAt leap e ⌝ }
 {
     if e < 59 + leap {

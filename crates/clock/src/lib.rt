@@ -1,11 +1,18 @@
 // An instant split into a day word and a time word, and the two joined again.
 use instants::Acceptance;
+use instants::INDEX_OFFSET;
 use instants::Instant;
 ghost use mathlib.Core.Path.{_≡_};
 ghost use Rattle.clock.specs.Words.{splitOf, joinOf};
 
 // What one mark weighs in a time word: 2^37 microseconds, more than a day has.
 const MARK_UNIT: u64 = 1 << 37;
+
+// How many marks there are: a day's is its number modulo this.
+const MARKS: u64 = 8;
+
+// A day number is its index less the offset: modulo the marks, its index and this.
+const MARK_SHIFT: u64 = MARKS - INDEX_OFFSET % MARKS;
 
 // A day word, which is a day number, and a time word: microseconds with the day's mark above them.
 pub struct ClockWords {
@@ -25,7 +32,7 @@ pub enum JoinAnswer {
     NoJoin(u32),
 }
 
-// The words of an instant, or refusal 8 or 9. The day number's mark is its index and 7, modulo 8.
+// The words of an instant, or refusal 8 or 9.
 pub fn split(day: i64, micros: u64) -> SplitAnswer
     ensures { λ r. ⌜ r ≡ splitOf day micros ⌝ }
 {
@@ -33,7 +40,7 @@ pub fn split(day: i64, micros: u64) -> SplitAnswer
         Acceptance::NotAccepted(n) => SplitAnswer::NoSplit(n),
         Acceptance::Accepted(i) => SplitAnswer::Split(ClockWords {
             day: day,
-            time: micros + (i + 7) % 8 * MARK_UNIT,
+            time: micros + (i + MARK_SHIFT) % MARKS * MARK_UNIT,
         }),
     }
 }
@@ -46,7 +53,7 @@ pub fn join(day: i64, time: u64) -> JoinAnswer
     match instants::accept(day, micros) {
         Acceptance::NotAccepted(n) => JoinAnswer::NoJoin(n),
         Acceptance::Accepted(i) => {
-            if time / MARK_UNIT != (i + 7) % 8 {
+            if time / MARK_UNIT != (i + MARK_SHIFT) % MARKS {
                 return JoinAnswer::NoJoin(10);
             }
             JoinAnswer::Joined(Instant {

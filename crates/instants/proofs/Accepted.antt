@@ -16,7 +16,7 @@ use Rattle.instants.specs.Limits.{firstDay, lastDay, dayMicros, indexOff
 use Rattle.instants.specs.Refusals.{refusedOr, firstRefusal}
 use Rattle.instants.specs.Instants.{outside, dayIndex, instantCases, acceptance, acceptanceRefusal}
 use Rattle.instants.specs.Inner.{indexAnswer}
-use Rattle.instants.proofs.Signs.{firstIndex, lastIndex, Between, between}
+use Rattle.instants.proofs.Signs.{firstIndex, lastIndex, DayInRange, day-in-range}
 
 -- a day number without an index is outside
 pub index-outside : (z : ℤ) → indexAnswer z ≡ NoIndex → outside z ≡ true
@@ -35,24 +35,25 @@ pub record HasIndex (z : ℤ) (n : ℕ) : Type 0 where
   pub high : n ≤ lastIndex
   pub is : z ≡ pos n -ℤ pos indexOffset
 
+-- where either test would have been enough, neither held
 pub both-false : (a b : Bool) → a || b ≡ false → (a ≡ false) × (b ≡ false)
 both-false false b e = (refl, e)
 both-false true b e = (e, impossible (cc))
 
-range : (z : ℤ) → outside z ≡ false → Between z
+range : (z : ℤ) → outside z ≡ false → DayInRange z
 unfolding outside
 range z p =
     let q : (ltZ z firstDay ≡ false) × (ltZ lastDay z ≡ false) = both-false (ltZ z firstDay) (ltZ lastDay z) p in
-    between z (q .0) (q .1)
+    day-in-range z (q .0) (q .1)
 
-index-of : (z : ℤ) → (b : Between z) → dayIndex z ≡ b .it
+index-of : (z : ℤ) → (b : DayInRange z) → dayIndex z ≡ b .it
 unfolding dayIndex
 index-of z b = ap natAbs (b .up)
 
 -- a day number that is not outside has its index
 pub inside-index : (z : ℤ) → outside z ≡ false → HasIndex z (dayIndex z)
 inside-index z p =
-    let b : Between z = range z p in
+    let b : DayInRange z = range z p in
     let j : b .it ≡ dayIndex z = sym (index-of z b) in
     record { inside = p; index = refl; low = omega (arith, b .low, j); high = omega (arith, b .high, j); is = b .is ∙ ap (λ (k : ℕ). pos k -ℤ pos indexOffset) j }
 
@@ -75,11 +76,13 @@ pub record AcceptedAt (d : ℤ) (m i : ℕ) : Type 0 where
   pub high : i ≤ lastIndex
   pub is : d ≡ pos i -ℤ pos indexOffset
 
+-- an instant of which no case applies has all that
 pub none-accepted : (d : ℤ) (m : ℕ) → NoneApplies (instantCases d m) → AcceptedAt d m (dayIndex d)
 none-accepted d m r =
     let h : HasIndex d (dayIndex d) = inside-index d (r .0) in
     record { inside = r .0; within = r .1 .0; less = leb-false _ _ (r .1 .0); index = refl; low = h .low; high = h .high; is = h .is }
 
+-- and so has one that was accepted
 pub accepted-at : (d : ℤ) (m i : ℕ) → acceptance d m ≡ Accepted i → AcceptedAt d m i
 unfolding acceptance
 accepted-at d m i e =
@@ -100,10 +103,12 @@ accepted d m o h = accepted-none d m (o, (lt-leb dayMicros m h, tt))
 -- ---- a service that asks for acceptance and hands its refusals on
 
 module _ {A : Type 0} (refuse : ℕ → A) (answer : A) (d : ℤ) (m : ℕ) where
+  -- where the instant is refused
   pub refused-too : {n : ℕ} → acceptance d m ≡ NotAccepted n → refuse n ≡ refusedOr refuse (instantCases d m) answer
   unfolding acceptance
   refused-too {n} e = sym (refused-alike NotAccepted refuse (instantCases d m) _ answer n (λ k p. cc) (λ p. impossible (cc)) e)
 
+  -- and where it is accepted
   pub answered-too : {i : ℕ} → acceptance d m ≡ Accepted i → answer ≡ refusedOr refuse (instantCases d m) answer
   unfolding acceptance
   answered-too {i} e = sym (none-answered refuse (instantCases d m) answer (answered-none NotAccepted (instantCases d m) _ (Accepted i) (λ n p. impossible (cc)) e .0))

@@ -13,7 +13,7 @@ abbrev pub NoneApplies : List Case → Type 0
 NoneApplies [] = Unit {0}
 NoneApplies (c ∷ cs) = (c .applies ≡ false) × NoneApplies cs
 
--- The one case analysis: what holds of two answers at every refusal, and where no case applies.
+-- The case analysis behind the laws below that speak of answers: what holds of two answers at every refusal, and where no case applies.
 pub in-both : {A B : Type 0} (P : A → B → Type 0) (refuse : ℕ → A) (refuse′ : ℕ → B) (cs : List Case) (a : A) (b : B)
     → ((n : ℕ) → P (refuse n) (refuse′ n)) → (NoneApplies cs → P a b) → P (refusedOr refuse cs a) (refusedOr refuse′ cs b)
 in-both P refuse refuse′ [] a b h k = k tt
@@ -25,6 +25,7 @@ in-both P refuse refuse′ (c ∷ cs) a b h k = by (c .applies) refl (in-both P 
     by false p f = f (λ n. k (p, n))
 
 module _ {A : Type 0} (refuse : ℕ → A) where
+  -- the same of one answer
   pub in-each : (P : A → Type 0) (cs : List Case) (a : A) → ((n : ℕ) → P (refuse n)) → (NoneApplies cs → P a) → P (refusedOr refuse cs a)
   in-each P cs a h k = in-both (λ (x y : A). P x) refuse refuse cs a a h k
 

@@ -2,7 +2,7 @@
 -- last one; and the sums of the code fit, since a day number in range is small. Assumes nothing.
 use Prim.Native.Nat.{ℕ, _+_, _/_, _^_, _≤_, _<_}
 use mathlib.Core.Path.{_≡_, refl, _∙_}
-use mathlib.Core.Bool.{Bool, true, false, _||_, true≢false}
+use mathlib.Core.Bool.{Bool, true, false}
 use native.Mathlib.Omega.{arith}
 use lib.Dec.{T}
 use lib.IntN.{ℤ, pos, negℤ, _+ℤ_, _-ℤ_, natAbs}
@@ -13,7 +13,7 @@ use Rattle.algebra.proofs.Order.{_≼_, ≼-refl, ≼-trans, ≼-add, le-plus, 
 use Rattle.algebra.proofs.Fits.{small-fits}
 use Rattle.instants.specs.Limits.{firstDay, lastDay, dayMicros, indexOffset}
 use Rattle.instants.specs.Instants.{outside, dayIndex, IsAccepted, laterDay, laterMicros}
-use Rattle.instants.proofs.Accepted.{AcceptedAt, accepted-at, accepted}
+use Rattle.instants.proofs.Accepted.{both-false, AcceptedAt, accepted-at, accepted}
 
 -- ---- the order of day numbers, as the tests have it
 
@@ -30,11 +30,7 @@ at-least a b e = ltZ-no (rw e tt)
 -- a day number in range, and a later one: it is outside exactly when it is past the last day
 pub outside-later : (d : ℤ) (q : ℕ) → outside d ≡ false → outside (d +ℤ pos q) ≡ ltZ lastDay (d +ℤ pos q)
 unfolding outside
-outside-later d q o = rw (not-less (d +ℤ pos q) firstDay (≼-trans (at-least d firstDay (first (ltZ d firstDay) _ o)) (le-plus d q)))
-  where
-    first : (a b : Bool) → a || b ≡ false → a ≡ false
-    first false b e = refl
-    first true b e = absurd (true≢false e)
+outside-later d q o = rw (not-less (d +ℤ pos q) firstDay (≼-trans (at-least d firstDay (both-false (ltZ d firstDay) _ o .0)) (le-plus d q)))
 
 -- what is before a day that is not past the last one is not past it either
 pub past-earlier : (d : ℤ) (p q : ℕ) → p ≤ q → ltZ lastDay (d +ℤ pos q) ≡ false → ltZ lastDay (d +ℤ pos p) ≡ false

@@ -17,7 +17,7 @@ by-index i m = ring (i ▹ m ▹ end) (search quote depth 13) tt
 pub moment-is : (d : ℤ) (i m : ℕ) → d ≡ pos i -ℤ pos indexOffset → sinceJ2000 d m ≡ since (moment i m)
 moment-is d i m e = ap (λ (z : ℤ). sinceJ2000 z m) e ∙ by-index i m
 
--- of an accepted instant
+-- PROMISE. At an accepted instant the moment is n + 5 N.
 pub accepted-moment : (d : ℤ) (m : ℕ) → IsAccepted d m → sinceJ2000 d m ≡ since (momentOf d m)
 accepted-moment d m a = moment-is d (dayIndex d) m (accepted-at d m (dayIndex d) a .is)
 

@@ -23,29 +23,29 @@ sub-fits a b = by (ltb a b) a b
 
 -- the indices of the first and the last day
 abbrev pub firstIndex : ℕ
-firstIndex = 109573
+firstIndex = 15020 + indexOffset
 
 abbrev pub lastIndex : ℕ
-lastIndex = 182986
+lastIndex = 88433 + indexOffset
 
 -- A day number in range, by its index.
-pub record Between (z : ℤ) : Type 0 where
+pub record DayInRange (z : ℤ) : Type 0 where
   pub it : ℕ
   pub low : firstIndex ≤ it
   pub high : it ≤ lastIndex
   pub is : z ≡ pos it -ℤ pos indexOffset
   pub up : z +ℤ pos indexOffset ≡ pos it
 
-pub between : (z : ℤ) → ltZ z firstDay ≡ false → ltZ lastDay z ≡ false → Between z
-between (pos n) p q =
+pub day-in-range : (z : ℤ) → ltZ z firstDay ≡ false → ltZ lastDay z ≡ false → DayInRange z
+day-in-range (pos n) p q =
     let l : 15020 ≤ n = ltb-false n 15020 p in
     let h : n ≤ 88433 = ltb-false 88433 n q in
     let e : n ≡ n + indexOffset - indexOffset = omega arith in
     record { it = n + indexOffset; low = omega arith; high = omega arith; is = simp (le-ltb (n + indexOffset) indexOffset (omega arith)) (ap pos e); up = refl }
-between (negsuc n) p q = absurd (true≢false p)
+day-in-range (negsuc n) p q = absurd (true≢false p)
 
 -- the sum of the code, which holds z as its bits
-module _ (z : ℤ) (f : SFits w64 z) (b : Between z) where
+module _ (z : ℤ) (f : SFits w64 z) (b : DayInRange z) where
   pub biased : toZ w64 (ofZ w64 z) +ℤ pos indexOffset ≡ pos (b .it)
   biased = rw (toZ-ofZ f) (b .up)
 

@@ -1,4 +1,4 @@
--- What only the contracts of the code's own functions cite.
+-- What only the contracts of the code's own functions cite, here, in calendar and in run.
 use Prim.Native.Nat.{ℕ, _^_, _<_}
 use mathlib.Core.Bool.{cond}
 use lib.IntN.{ℤ}

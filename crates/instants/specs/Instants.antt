@@ -37,7 +37,7 @@ instantCases d m = case 8 (outside d) ∷ case 9 (leb dayMicros m) ∷ []
 unfoldable pub acceptance : ℤ → ℕ → Acceptance
 acceptance d m = refusedOr NotAccepted (instantCases d m) (Accepted (dayIndex d))
 
--- neither applies
+-- an accepted instant: neither case applies
 abbrev pub IsAccepted : ℤ → ℕ → Type 0
 IsAccepted d m = acceptance d m ≡ Accepted (dayIndex d)
 

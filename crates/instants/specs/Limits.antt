@@ -1,4 +1,4 @@
--- The limits of an instant, and the span of days that the sums cover.
+-- The limits of an instant, where a day's index counts from, and the span of days that the sums cover.
 use Prim.Native.Nat.{ℕ}
 use lib.IntN.{ℤ, pos}
 

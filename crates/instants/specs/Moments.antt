@@ -1,4 +1,5 @@
--- Time as one number: n, the microseconds since J2000.0, in which the exact sums are; x = n + 5 N, which is never negative, in which ours are.
+-- Time as one number: n, the microseconds since J2000.0, at which the exact zonal sums and the nutation's exact angle are taken; x = n + 5 N, which is
+-- never negative, at which ours are, and in which the rows of a table are dated.
 -- J2000.0 is day 51544 at noon.
 use Prim.Native.Nat.{ℕ, _+_, _*_, _-_}
 use lib.IntN.{ℤ, pos, _+ℤ_, _-ℤ_, _*ℤ_}

@@ -91,7 +91,8 @@ pub fn later(day: i64, micros: u64, t: u64) -> Instant
 
 // The moment of a day's index and the microseconds of that day: the microseconds since five centuries before J2000.0.
 pub fn moment(index: u64, micros: u64) -> u64
-    requires { ⌜ (index < daysCovered) × (micros < dayMicros) ⌝ }
+    requires index { ⌜ index < daysCovered ⌝ }
+    requires micros { ⌜ micros < dayMicros ⌝ }
     ensures { λ r. ⌜ r ≡ moments.moment index micros ⌝ }
 {
     (index + ORIGIN_DAYS) * DAY_MICROS + HALF_DAY + micros

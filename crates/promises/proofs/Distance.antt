@@ -1,6 +1,7 @@
 -- Demand 3 holds. Assumes nothing.
 use mathlib.Core.Path.{sym}
 use Rattle.instants.proofs.Moments.{accepted-moment}
+use Rattle.rows.proofs.Places.{row-date}
 use Rattle.zonal.proofs.Promises.{accepted-answered}
 use Rattle.zonal.proofs.Worked.{case-accepted, no-constant}
 use Rattle.run.proofs.ReadBack.{run-reads, some-not-refused}
@@ -16,6 +17,7 @@ distance = record {
   run-near = run-reads;
   some-run = some-not-refused;
   moment-counts = λ d m a. sym (accepted-moment d m a);
+  row-dates = row-date;
   offsets-near = nutation-near;
   offsets-vary = λ c. (no-constant-x c, no-constant-y c);
 }

@@ -1,7 +1,8 @@
 -- Demand 1: any input is answered. Each service is refused by the first number of its list that applies, and by nothing else; beside a refusal
 -- every other number is 0, and no lent byte changes. That each exported call gives these numbers for every input is its contract
--- (crates/enfysgar/src). The rules are written out here a second time, with their figures and apart from the definitions: first when each number
--- is given, then for each service its numbers in their order.
+-- (crates/enfysgar/src). The rules are written out here a second time, with their figures and apart from the lists and limits of the definitions (the
+-- length of a month, the mark, numbers and sums in bytes and a later day are theirs): first when each number is given, then for each service its
+-- numbers in their order.
 use Prim.Native.Nat.{ℕ, _-_, _*_, _/_, _%_}
 use mathlib.Core.Path.{_≡_}
 use mathlib.Core.Bool.{Bool, not, _&&_, _||_}
@@ -97,11 +98,11 @@ abbrev pub refusal16 : List ℕ → Case
 refusal16 s = case 16 (not (eqb (wordSum s 15 % 65536) 0))
 
 -- the day word and the time word of a record
-abbrev pub dayWord : List ℕ → ℤ
-dayWord s = pos (numberAt s 4 4)
+abbrev pub recordDayWord : List ℕ → ℤ
+recordDayWord s = pos (numberAt s 4 4)
 
-abbrev pub timeWord : List ℕ → ℕ
-timeWord s = numberAt s 8 8
+abbrev pub recordTimeWord : List ℕ → ℕ
+recordTimeWord s = numberAt s 8 8
 
 -- a run's count and step
 abbrev pub refusal17 : ℕ → Case
@@ -147,7 +148,7 @@ pub record AnyInputIsAnswered : Type 0 where
   pub record-write-keeps : (d : ℤ) (m : ℕ) (ut1 lod rate : ℤ) (old : List ℕ) → (writeRefusal d m (length old) ≡ 0 → ⊥) → written d m ut1 lod rate old ≡ old
   pub record-read : (s : List ℕ) → readRefusalOf (readOf s)
       ≡ firstRefusal (refusal12 (length s) 30 ∷ refusal14 s ∷ refusal13 s ∷ refusal15 s ∷ refusal16 s
-      ∷ refusal8 (dayWord s) ∷ refusal9 (timeWord s % 137_438_953_472) ∷ refusal10 (dayWord s) (timeWord s) ∷ [])
+      ∷ refusal8 (recordDayWord s) ∷ refusal9 (recordTimeWord s % 137_438_953_472) ∷ refusal10 (recordDayWord s) (recordTimeWord s) ∷ [])
   pub record-read-zero : (a : ReadAnswer)
       → ZeroBeside readRefusalOf recordDayOf (pos 0) a
       × ZeroBeside readRefusalOf recordMicrosOf 0 a

@@ -13,6 +13,8 @@ use Rattle.record.specs.Format.{recordLength}
 use Rattle.run.specs.Run.{runRefusal, runWritten}
 use Rattle.run.specs.ReadBack.{ReadsAt}
 use Rattle.rows.specs.BuiltIn.{builtIn}
+use Rattle.rows.specs.Places.{rowMoment}
+use Rattle.rows.specs.declared.Row.{Row}
 use Rattle.nutation.specs.Ours.{nutationOf}
 use Rattle.nutation.specs.Exact.{exactX, exactY, exactDen}
 use Rattle.nutation.specs.Claims as nutation
@@ -35,6 +37,8 @@ pub record Distance : Type 0 where
   pub some-run : (n : ℕ) → recordLength * 96 ≤ n → (runRefusal (pos 54465) 0 96 900_000_000 n ≡ 0) × (runRefusal (pos 54465) 0 96 86_400_000_000 n ≡ 0)
   -- the moment x that the offsets are taken at stands for n: at every accepted instant it is n + 5 N
   pub moment-counts : (d : ℤ) (m : ℕ) → IsAccepted d m → since (momentOf d m) ≡ sinceJ2000 d m
+  -- and the moment that a row of the table is dated at stands for 0 h of its day
+  pub row-dates : (r : Row) → since (rowMoment r) ≡ sinceJ2000 (pos (r .day)) 0
   -- (f) every accepted instant is answered by two offsets within 2 nanoarcseconds of the exact ones, and the exact uncertainty
   pub offsets-near : (d : ℤ) (m : ℕ) → IsAccepted d m → (o : Offsets) × (nutationOf d m ≡ Nutation o) × OffsetsNear builtIn (momentOf d m) o
   -- no constant offset would do

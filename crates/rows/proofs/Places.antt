@@ -10,6 +10,7 @@ use Prim.Native.Nat.{ℕ, zero, suc, _+_, _*_, _-_, _≤_, _<_, zero-le, suc-le-
 use native.Mathlib.Nat as N
 use native.Mathlib.Omega.{arith}
 use lib.Dec.{T, leb, ltb, leb→le, ltb→lt, nleb→lt, nltb→le, not-T}
+use lib.IntN.{pos, _-ℤ_}
 use lib.ListN.{length}
 use borrow.Author.Tests.{le-leb, lt-leb}
 use Rattle.algebra.proofs.Tests.{cond-case}
@@ -18,8 +19,20 @@ use Rattle.rows.specs.declared.Place.{Place}
 use Rattle.rows.specs.declared.Place.the-variants.{End, Between}
 use Rattle.rows.specs.Table.{rowAt, AcceptedTable}
 use Rattle.rows.specs.Places.{rowMoment, started, place}
-use Rattle.instants.specs.Limits.{dayMicros}
+use Rattle.algebra.proofs.Ring.{end, _▹_, ring, quote}
+use Rattle.instants.specs.Limits.{dayMicros, indexOffset}
+use Rattle.instants.specs.Moments.{sinceJ2000, since}
+use Rattle.instants.proofs.Moments.{moment-is}
 use Rattle.rows.specs.Inner.{Bracket, Inside, Placed}
+
+-- ---- a row's date
+
+-- PROMISE. A row is dated at 0 h of its day: its moment stands for n there.
+pub row-date : (r : Row) → since (rowMoment r) ≡ sinceJ2000 (pos (r .day)) 0
+row-date r = sym (moment-is (pos (r .day)) (r .day + indexOffset) 0 (go (r .day)))
+  where
+    go : (d : ℕ) → pos d ≡ pos (d + indexOffset) -ℤ pos indexOffset
+    go d = ring (d ▹ end) (search quote depth 13) tt
 
 -- ---- how many rows are dated at or before x
 

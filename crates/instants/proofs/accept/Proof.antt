@@ -13,8 +13,12 @@ use Rattle.instants.proofs.accept.Tie as tie
 abbrev says : (c : tie.After-day-index) → c .day-index .result ≡ indexAnswer (c .before .args .day)
 says c = c .day-index .ensures ∙ ap indexAnswer (toZ-ofZ (c .before .fits .day))
 
-known : (c : tie.After-known-told) → HasIndex (c .before .before .before .before .args .day) (c .before .n .given .0 .0)
-known c = index-at _ _ (sym (says (c .before .before .before)) ∙ c .before .n .given .1)
+-- where the call of day_index has come back
+abbrev indexed : tie.After-known-told → tie.After-day-index
+indexed c = c .before .before .before
+
+known : (c : tie.After-known-told) → HasIndex (indexed c .before .args .day) (c .before .n .given .0 .0)
+known c = index-at _ _ (sym (says (indexed c)) ∙ c .before .n .given .1)
 
 day-index-requires : tie.Need-day-index-requires
 day-index-requires c κs = search needs

@@ -10,7 +10,7 @@ use Rattle.instants.specs.declared.IndexAnswer.the-variants.{AtIndex}
 use Rattle.instants.specs.Limits.{firstDay, lastDay, indexOffset}
 use Rattle.instants.specs.Instants.{outside, dayIndex}
 use Rattle.instants.specs.Inner.{indexAnswer}
-use Rattle.instants.proofs.Signs.{Between, between, biased, biased-sum, biased-read}
+use Rattle.instants.proofs.Signs.{DayInRange, day-in-range, biased, biased-sum, biased-read}
 use Rattle.instants.proofs.day_index.Statement.{statement}
 use Rattle.instants.proofs.day_index.Tie as tie
 
@@ -29,8 +29,8 @@ module _ (c : tie.Else2) where
   not-late : ltZ lastDay day ≡ false
   not-late = rw (toZ-ofZ (start .fits .day)) at (c .if2 .left)
 
-  in-range : Between day
-  in-range = between day (not-early (c .before)) not-late
+  in-range : DayInRange day
+  in-range = day-in-range day (not-early (c .before)) not-late
 
 returns : tie.Need-returns
 unfolding indexAnswer outside
