@@ -1,4 +1,4 @@
--- `calendar::instant_of` meets its contract. Assumes nothing.
+-- `calendar::instant_of` meets its contract: the date's cases stand before those of the time, so the code may hand the date's refusal on. Assumes nothing.
 use Prim.Native.Nat.{ℕ}
 use mathlib.Core.Path.{_≡_, refl, _∙_, ap, sym}
 use lib.IntN.{ℤ}

@@ -1,4 +1,4 @@
--- `calendar::leap` meets its contract. Assumes nothing.
+-- `calendar::leap` meets its contract: each return has the tests by 4, 100 and 400 that led there. Assumes nothing.
 use borrow.Author.Needs.{needs}
 use borrow.Author.Tests.{eq-eqb, ne-eqb}
 use Rattle.calendar.specs.Dates.{leapYear}

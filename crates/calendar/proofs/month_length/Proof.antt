@@ -1,4 +1,4 @@
--- `calendar::month_length` meets its contract. Assumes nothing.
+-- `calendar::month_length` meets its contract: the table of a common year, and February's extra day in a leap year (`length-table`). Assumes nothing.
 use Rattle.calendar.proofs.Months.{month-short, length-table, commons}
 use Prim.Native.Nat.{ℕ}
 use mathlib.Core.Path.{ap}

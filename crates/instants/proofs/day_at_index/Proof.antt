@@ -1,4 +1,4 @@
--- `instants::day_at_index` meets its contract. Assumes nothing.
+-- `instants::day_at_index` meets its contract: an index and the offset are small, so their difference fits. Assumes nothing.
 use native.Mathlib.Omega.{arith}
 use mir.Syntax.{w64}
 use mir.Facts.{toZ-pos, toZ-ofZ}

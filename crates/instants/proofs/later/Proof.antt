@@ -1,4 +1,4 @@
--- `instants::later` meets its contract. Assumes nothing.
+-- `instants::later` meets its contract: the sums fit since the instant is accepted, so the bits that the code adds are the numbers. Assumes nothing.
 use Prim.Native.Nat.{_+_, _/_, _^_, _<_}
 use native.Mathlib.Omega.{arith}
 use mathlib.Core.Path.{_≡_, _∙_, ap}
