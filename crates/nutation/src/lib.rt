@@ -109,7 +109,9 @@ fn offset_of(c: i64, s: i64, cos: i64, sin: i64) -> i64
 
 // A quotient, rounded up.
 fn round_up(n: u64, d: u64) -> u64
-    requires { ⌜ (0 < d) × (n ≤ 2 ^ 63) × (d ≤ 2 ^ 62) ⌝ }
+    requires positive { ⌜ 0 < d ⌝ }
+    requires dividend { ⌜ n ≤ 2 ^ 63 ⌝ }
+    requires divisor { ⌜ d ≤ 2 ^ 62 ⌝ }
     ensures { λ r. ⌜ r ≡ roundUp n d ⌝ }
 {
     (n + (d - 1)) / d
@@ -137,7 +139,8 @@ fn uncertainty_end(r: Row, x: u64) -> u64
 // Twice what is between u and v, which are `days` apart, `after` microseconds after u, rounded up: whole days and the rest of a day apart, since the
 // product with all the microseconds passes 64 bits.
 fn uncertainty_mixed(u: u64, v: u64, days: u64, after: u64) -> u64
-    requires ends { ⌜ (u ≤ largest) × (v ≤ largest) ⌝ }
+    requires first { ⌜ u ≤ largest ⌝ }
+    requires second { ⌜ v ≤ largest ⌝ }
     requires way { ⌜ OnTheWay days after ⌝ }
     ensures { λ r. ⌜ r ≡ twiceBetween u v (days * dayMicros) after ⌝ }
 {

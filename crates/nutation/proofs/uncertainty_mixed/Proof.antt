@@ -23,11 +23,11 @@ days : (u v p n : ℕ) → u ≤ largest → v ≤ largest → p ≤ lastRowDay 
 days u v p n hu hv hp hn = (at-most lastRowDay hu (omega arith), at-most lastRowDay hv (omega arith))
 
 rest-small : (s : tie.Start) → (s .args .u * (dayMicros - s .args .after % dayMicros) ≤ largest * dayMicros) × (s .args .v * (s .args .after % dayMicros) ≤ largest * dayMicros)
-rest-small s = rest (s .args .u) (s .args .v) (s .args .after) (s .pre .0 .0) (s .pre .0 .1)
+rest-small s = rest (s .args .u) (s .args .v) (s .args .after) (s .pre .0) (s .pre .1 .0)
 
 days-small : (s : tie.Start)
     → (s .args .u * (s .args .days - 1 - s .args .after / dayMicros) ≤ largest * lastRowDay) × (s .args .v * (s .args .after / dayMicros) ≤ largest * lastRowDay)
-days-small s = days (s .args .u) (s .args .v) (s .args .days) (s .args .after) (s .pre .0 .0) (s .pre .0 .1) (s .pre .1 .days-few) (s .pre .1 .less)
+days-small s = days (s .args .u) (s .args .v) (s .args .days) (s .args .after) (s .pre .0) (s .pre .1 .0) (s .pre .1 .1 .days-few) (s .pre .1 .1 .less)
 
 -- ---- the needs
 
@@ -82,7 +82,7 @@ returns c =
     let s = c .before .before in
     c .round-up2 .ensures
     ∙ ap (λ (k : ℕ). roundUp (20 * (s .args .u * (s .args .days - 1 - s .args .after / dayMicros) + s .args .v * (s .args .after / dayMicros)) + k) (s .args .days)) (c .before .round-up .ensures)
-    ∙ between-steps (s .args .u) (s .args .v) (s .args .days) (s .args .after) (s .pre .1 .days-positive) (s .pre .1 .less)
+    ∙ between-steps (s .args .u) (s .args .v) (s .args .days) (s .args .after) (s .pre .1 .1 .days-positive) (s .pre .1 .1 .less)
 
 pub uncertainty-mixed-spec : {M : Type 1} → statement M
 uncertainty-mixed-spec =
