@@ -87,10 +87,6 @@ allInRange k = ((((inRange (k .k1) && inRange (k .k2)) && inRange (k .k3)) && in
 abbrev pub rangeCases : Doodson → List Case
 rangeCases k = case 11 (not (allInRange k)) ∷ []
 
--- from arguments at hand: both numbers, or the multipliers' refusal
-unfoldable pub answerOf : Arguments → Doodson → TideAnswer
-answerOf a k = refusedOr NoTide (rangeCases k) (Tide (constituentOf a k))
-
 -- the refusals of an instant and of six multipliers
 abbrev pub tideCases : (d : ℤ) (m : ℕ) → Doodson → List Case
 tideCases d m k = instantCases d m ++ rangeCases k
