@@ -151,12 +151,15 @@ const DOWN_FIVE: Half = Half {
     k4: 103207,
 };
 
+// A microsecond, in units of 2^-88 century: 2^88 / N, to nearest, where N is the number of microseconds in a century.
+const PER_CENTURY: u64 = 98069881683;
+
 // The five arguments l, l', F, D and Omega at the moment x, each in units of 2^-41 turn.
 pub fn arguments(x: u64) -> [u64; 5]
     requires { ⌜ x ≤ latest ⌝ }
     ensures { λ r. ⌜ r ≡ ours.ourArguments x ⌝ }
 {
-    let s = high(x, 98069881683);
+    let s = high(x, PER_CENTURY);
     [
         argument(x, s, UP_ONE, DOWN_ONE),
         argument(x, s, UP_TWO, DOWN_TWO),

@@ -7,7 +7,7 @@ ghost use Rattle.sine.specs.Exact.{halfTurn};
 ghost use Rattle.sine.specs.Ours.{sineQuarter, quarterTurn, ourSine, ourCosine};
 
 // A turn, in units of 2^-41 turn.
-const TURN: u64 = 1 << 41;
+pub const TURN: u64 = 1 << 41;
 
 // A half turn.
 const HALF: u64 = 1 << 40;
