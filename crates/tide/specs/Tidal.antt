@@ -80,6 +80,7 @@ constituentOf a k = record {
 abbrev pub inRange : ℤ → Bool
 inRange z = leZ (negℤ (pos 12)) z && leZ z (pos 12)
 
+-- all six are
 unfoldable pub allInRange : Doodson → Bool
 allInRange k = ((((inRange (k .k1) && inRange (k .k2)) && inRange (k .k3)) && inRange (k .k4)) && inRange (k .k5)) && inRange (k .k6)
 
