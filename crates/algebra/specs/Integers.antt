@@ -1,5 +1,4 @@
 -- Whole numbers: how they are written, remainders, distances and sums.
--- Assumes nothing.
 use Prim.Native.Nat.{ℕ, zero, suc, _+_, _-_, _%_}
 use lib.IntN.{ℤ, pos, negsuc, negℤ, _+ℤ_}
 

@@ -1,5 +1,4 @@
 -- A distance of two whole numbers.
--- Assumes nothing.
 use Prim.Native.Nat.{ℕ, _≤_}
 use lib.IntN.{ℤ, _-ℤ_, natAbs}
 

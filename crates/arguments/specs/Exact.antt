@@ -1,5 +1,4 @@
 -- The exact arguments and the exact angle of each row of the table, in whole numbers: an angle is a numerator over `turnParts`, in turns.
--- Assumes nothing.
 use mathlib.Core.List.{List, [], _∷_}
 use Prim.Native.Nat.{ℕ, _*_, _^_}
 use lib.IntN.{ℤ, pos, _+ℤ_, _*ℤ_, pow}
@@ -16,6 +15,7 @@ pub record Polynomial : Type 0 where
   pub c₃ : ℤ
   pub c₄ : ℤ
 
+-- a + b x + c x^2 + d x^3 + e x^4
 abbrev pub polynomial : ℤ → ℤ → ℤ → ℤ → ℤ → Polynomial
 polynomial a b c d e = record { c₀ = a; c₁ = b; c₂ = c; c₃ = d; c₄ = e }
 
@@ -40,10 +40,11 @@ F4 = polynomial (+ 2978501954694) (+ 4452671114469445) (− 17696111) (+ 18314) 
 abbrev pub F5 : Polynomial
 F5 = polynomial (+ 1250445550100) (− 19341362619722) (+ 20756111) (+ 21394) (− 165)
 
--- a turn of 360 degrees, times 10^10, and the parts of a turn that N^4 makes of it
+-- a turn of 360 degrees, times 10^10
 abbrev pub turn : ℕ
 turn = 3_600_000_000_000
 
+-- the parts of a turn that N^4 makes of it
 abbrev pub turnParts : ℕ
 turnParts = turn * century ^ 4
 

@@ -1,5 +1,4 @@
 -- What the code asks of its numbers so that nothing passes 64 bits.
--- Assumes nothing.
 use mathlib.Core.Path.{_≡_}
 use Prim.Native.Nat.{ℕ, _^_, _≤_, _<_}
 use lib.IntN.{ℤ}

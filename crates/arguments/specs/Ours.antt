@@ -1,6 +1,5 @@
 -- Our arguments and angles in whole numbers: an angle is in units of 2^-41 turn. Time is a natural number, each argument is the difference of
 -- two halves, polynomials whose coefficients are not negative, and every quotient is rounded down.
--- Assumes nothing.
 use mathlib.Core.List.{List, [], _∷_}
 use Prim.Native.Nat.{ℕ, _+_, _*_, _-_, _/_, _%_, _^_}
 use lib.IntN.{ℤ, _+ℤ_, natAbs}
@@ -21,7 +20,7 @@ perCentury = 98069881683
 abbrev pub half : ℕ → ℕ → ℕ → ℕ → ℕ → Half
 half a b c d e = record { a0 = a; g = b; k2 = c; k3 = d; k4 = e }
 
--- one half of an argument at x, by nested products with s, the time with 24 binary places
+-- the degrees from 2 on of one half, by nested products with s, the time with 24 binary places, from the inside
 abbrev pub term₃ : Half → ℕ → ℕ
 term₃ k s = k .k3 + s * k .k4 / 2 ^ 24
 
@@ -34,6 +33,7 @@ term₁ k s = s * term₂ k s / 2 ^ 30
 abbrev pub term₀ : Half → ℕ → ℕ
 term₀ k s = s * term₁ k s / 2 ^ 28
 
+-- one half of an argument at x
 abbrev pub halfAt : Half → ℕ → ℕ
 halfAt k x = k .a0 + high x (k .g) + term₀ k (high x perCentury)
 
@@ -72,6 +72,7 @@ down₅ = half 0 69061302818403774 0 0 103207
 abbrev pub argument : Half → Half → ℕ → ℕ
 argument up down x = (halfAt up x + (2 ^ 41 - halfAt down x % 2 ^ 41)) % 2 ^ 41
 
+-- the five at x
 abbrev pub ourArguments : ℕ → List ℕ
 ourArguments x = argument up₁ down₁ x ∷ argument up₂ down₂ x ∷ argument up₃ down₃ x ∷ argument up₄ down₄ x ∷ argument up₅ down₅ x ∷ []
 
@@ -79,6 +80,7 @@ ourArguments x = argument up₁ down₁ x ∷ argument up₂ down₂ x ∷ argum
 abbrev pub column : ℤ → ℕ → ℕ
 column k a = natAbs (k +ℤ + 2) * a + 2 * (2 ^ 41 - a)
 
+-- k₁ * a₁ + k₂ * a₂ + .., so
 abbrev pub columns : List ℤ → List ℕ → ℕ
 columns [] xs = 0
 columns (k ∷ ks) [] = 0

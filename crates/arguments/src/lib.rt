@@ -50,7 +50,8 @@ struct Half {
 // One half of an argument at x, which is s in units of 2^-24 century: in units of 2^-41 turn.
 fn half_at(x: u64, s: u64, k: Half) -> u64
     requires { ⌜ HalfBounds x s k ⌝ }
-    ensures { λ r. ⌜ (r ≡ ours.halfAt k x) × (r < 2 ^ 56) ⌝ }
+    ensures value { λ r. ⌜ r ≡ ours.halfAt k x ⌝ }
+    ensures below { λ r. ⌜ r < 2 ^ 56 ⌝ }
 {
     let h3 = k.k3 + s * k.k4 / CENTURY;
     let h2 = k.k2 + s * h3 / CENTURY;
@@ -60,7 +61,8 @@ fn half_at(x: u64, s: u64, k: Half) -> u64
 
 // One argument, in units of 2^-41 turn, whole turns removed.
 fn argument(x: u64, s: u64, up: Half, down: Half) -> u64
-    requires { ⌜ HalfBounds x s up × HalfBounds x s down ⌝ }
+    requires up { ⌜ HalfBounds x s up ⌝ }
+    requires down { ⌜ HalfBounds x s down ⌝ }
     ensures { λ r. ⌜ r ≡ ours.argument up down x ⌝ }
 {
     let u = half_at(x, s, up);
@@ -149,12 +151,15 @@ const DOWN_FIVE: Half = Half {
     k4: 103207,
 };
 
+// A microsecond, in units of 2^-88 century: 2^88 / N, to nearest, where N is the number of microseconds in a century.
+const PER_CENTURY: u64 = 98069881683;
+
 // The five arguments l, l', F, D and Omega at the moment x, each in units of 2^-41 turn.
 pub fn arguments(x: u64) -> [u64; 5]
     requires { ⌜ x ≤ latest ⌝ }
     ensures { λ r. ⌜ r ≡ ours.ourArguments x ⌝ }
 {
-    let s = high(x, 98069881683);
+    let s = high(x, PER_CENTURY);
     [
         argument(x, s, UP_ONE, DOWN_ONE),
         argument(x, s, UP_TWO, DOWN_TWO),
@@ -166,15 +171,19 @@ pub fn arguments(x: u64) -> [u64; 5]
 
 // k times a, with two turns added so that nothing is negative.
 fn column(k: i8, a: u64) -> u64
-    requires { ⌜ Multiplier k × (a ≤ 2 ^ 41) ⌝ }
-    ensures { λ r. ⌜ (r ≡ ours.column k a) × (r ≤ 2 ^ 44) ⌝ }
+    requires multiplier { ⌜ Multiplier k ⌝ }
+    requires argument { ⌜ a ≤ 2 ^ 41 ⌝ }
+    ensures value { λ r. ⌜ r ≡ ours.column k a ⌝ }
+    ensures most { λ r. ⌜ r ≤ 2 ^ 44 ⌝ }
 {
     (k + 2) as u64 * a + 2 * (TURN - a)
 }
 
 // The angle of a row, in units of 2^-41 turn, whole turns removed. The table of multipliers is lent, so that it is not made anew for each row.
 pub fn angle(t: &[[i8; 5]; 62], row: usize, a: [u64; 5]) -> u64
-    requires { ⌜ (now t ≡ multipliers) × (row < 62) × ((j : ℕ) → getD a j 0 ≤ 2 ^ 41) ⌝ }
+    requires table { ⌜ now t ≡ multipliers ⌝ }
+    requires row { ⌜ row < 62 ⌝ }
+    requires arguments { ⌜ ((j : ℕ) → getD a j 0 ≤ 2 ^ 41) ⌝ }
     ensures { λ r. ⌜ r ≡ ours.columns (getD multipliers row []) a % 2 ^ 41 ⌝ }
 {
     let mut sum: u64 = 0;

@@ -25,7 +25,7 @@ pub extern "C" fn enfys_tide_frequency(
         k5,
         k6,
     };
-    tide::frequency(tide::frequency_and_phase(day, micros, k))
+    tide::frequency(tide::tide_of(day, micros, k))
 }
 
 // The phase, in degrees.
@@ -50,7 +50,7 @@ pub extern "C" fn enfys_tide_phase(
         k5,
         k6,
     };
-    tide::phase(tide::frequency_and_phase(day, micros, k))
+    tide::phase(tide::tide_of(day, micros, k))
 }
 
 // The refusal number of an instant and six multipliers.
@@ -75,5 +75,5 @@ pub extern "C" fn enfys_tide_refusal(
         k5,
         k6,
     };
-    tide::refusal(tide::frequency_and_phase(day, micros, k))
+    tide::refusal(tide::tide_of(day, micros, k))
 }

@@ -1,5 +1,4 @@
 -- The words of the promises on the offsets (proofs/Promises.antt).
--- Assumes nothing.
 use mathlib.Core.Path.{_≡_}
 use mathlib.Core.List.{List}
 use Prim.Native.Nat.{ℕ, _*_, _<_}

@@ -1,5 +1,4 @@
 -- What only the contracts of the code's own functions cite.
--- Assumes nothing.
 use Prim.Native.Nat.{ℕ, _+_, _*_, _-_, _^_, _≤_, _<_}
 use lib.IntN.{ℤ, natAbs}
 use Rattle.instants.specs.Limits.{dayMicros}

@@ -4,6 +4,7 @@ use instants::Acceptance;
 use instants::DAY_MICROS;
 use rows::Place;
 use rows::Row;
+use sine::TURN;
 ghost use mathlib.Core.Path.{_≡_};
 ghost use Prim.Native.Nat.{ℕ, _*_, _/_, _^_, _≤_, _<_};
 ghost use Rattle.instants.specs.Limits.{dayMicros};
@@ -96,7 +97,7 @@ fn angle_at(x: u64) -> u64
     requires { ⌜ x ≤ latest ⌝ }
     ensures { λ r. ⌜ r ≡ ourAngle x ⌝ }
 {
-    (START_ANGLE - arguments::high(x, ANGLE_RATE)) % 0x200_0000_0000
+    (START_ANGLE - arguments::high(x, ANGLE_RATE)) % TURN
 }
 
 // Ten times c cos - s sin, which is in units of 2^-41, to the nearest whole nanoarcsecond.

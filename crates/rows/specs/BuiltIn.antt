@@ -1,5 +1,4 @@
 -- The thirty rows of FCNNUT, 1984 to 2013.
--- Assumes nothing.
 use mathlib.Core.List.{List, [], _∷_}
 use Rattle.algebra.specs.Integers.{+_, −_}
 use Rattle.rows.specs.declared.Row.{Row}

@@ -1,6 +1,5 @@
 -- A table of amplitudes of the free core nutation, and the rules that any accepted table keeps.
 -- Amplitudes and uncertainties are in hundredths of a microarcsecond.
--- Assumes nothing.
 use mathlib.Core.List.{List}
 use Prim.Native.Nat.{ℕ, suc, _≤_, _<_}
 use lib.IntN.{ℤ, natAbs}

@@ -1,6 +1,6 @@
 -- Our sine at q of 2^30 parts of a quarter, against the exact series there: within 13 units of 2^-31. The series is q / 2^30 times the exact
 -- alternating sum in the square of q / 2^30, whose constants are (pi/2)^(2k+1) / (2k+1)!. Ours is off by the error of its alternating sum
--- (Nested), which is computed from the constants, and by one unit for the last product, rounded down.
+-- (Alternating), which is computed from the constants, and by one unit for the last product, rounded down.
 -- Assumes nothing.
 use mathlib.Core.Path.{_≡_, refl, sym, _∙_, ap, ap₂}
 use mathlib.Core.List.{List, [], _∷_}
@@ -20,7 +20,7 @@ use Rattle.algebra.proofs.Floor.{near-floor}
 use Rattle.sine.proofs.Series.{seriesE}
 use Rattle.sine.specs.Exact.{turnNum, S, sineDen}
 use Rattle.sine.specs.Ours.{firstConstant, otherConstants, alternating, sineQuarter}
-use Rattle.sine.proofs.Nested.{exactNested, power, error, constantsTest, alternating-near}
+use Rattle.sine.proofs.Alternating.{exactAlternating, power, error, constantsTest, alternating-near}
 
 -- (t / v)^(2k+1) / (2k+1)! times v^23 * 23!, a whole number: with t / v = pi/2 the constants, exactly
 abbrev pub part : ℕ → ℕ → ℕ → ℕ
@@ -52,7 +52,7 @@ power-is W f [] = refl
 power-is W f (k ∷ ks) = ap (λ (z : ℤ). pos W *ℤ z) (power-is W f ks)
 
 exact-is : (W w : ℕ) (f : ℕ → ℕ) (g : ℕ → ℤ) → ((k : ℕ) → pos (f k) ≡ g k) → (k : ℕ) (ks : List ℕ)
-    → exactNested W w (f k) (each f ks) ≡ exactᶻ (pos W) (pos w) g k ks
+    → exactAlternating W w (f k) (each f ks) ≡ exactᶻ (pos W) (pos w) g k ks
 exact-is W w f g h k [] = h k
 exact-is W w f g h k (j ∷ js) =
     ap₂ _-ℤ_ (ap₂ (λ (x y : ℤ). x *ℤ (pos W *ℤ y)) (h k) (power-is W f js)) (ap (λ (z : ℤ). pos w *ℤ z) (exact-is W w f g h j js))
@@ -79,7 +79,7 @@ series-isᶻ q r t v = solve
     (var 0 ⊗ exactE (var 1 ⊗ var 1) (var 0 ⊗ var 0) (λ k. var 2 ↑ suc (2 * k) ⊗ var 3 ↑ (22 - 2 * k) ⊗ # (factorial 23 / factorial (suc (2 * k)))) 0 upToEleven)
     (q ▸ r ▸ t ▸ v ▸ end) tt
 
-series-is : (q r t v : ℕ) → series (pos (q * t)) (pos (r * v)) ≡ pos q *ℤ exactNested (r * r) (q * q) (part t v 0) (parts t v)
+series-is : (q r t v : ℕ) → series (pos (q * t)) (pos (r * v)) ≡ pos q *ℤ exactAlternating (r * r) (q * q) (part t v 0) (parts t v)
 series-is q r t v =
     series-isᶻ (pos q) (pos r) (pos t) (pos v)
     ∙ ap (λ (z : ℤ). pos q *ℤ z) (sym (exact-is (r * r) (q * q) (part t v) (partᶻ (pos t) (pos v)) (part-is t v) 0 upToEleven))
@@ -112,7 +112,7 @@ series-near : (F r s t u c : ℕ) (ds : List ℕ) → 0 < F → 0 < r → 0 < s 
     → (e : ℕ) → 100 + error F (hundredth u) ds (part t (100 * u) 0) (parts t (100 * u)) ≤ e * 100
     → Near (pos (q * alternating F (q * q / s) c ds / r) *ℤ pos ((r * (100 * u)) ^ 23 * factorial 23)) (series (pos (q * t)) (pos (r * (100 * u))) *ℤ pos F) (e * ((r * (100 * u)) ^ 23 * factorial 23))
 series-near F r s t u c ds hF hr hs hm rs test q hq e he =
-    near-as (last-product F r (hundredth u * W) (error F (hundredth u) ds (part t (100 * u) 0) (parts t (100 * u))) q (alternating F z c ds) (exactNested (r * r) (q * q) (part t (100 * u) 0) (parts t (100 * u))) hr hq near-nested)
+    near-as (last-product F r (hundredth u * W) (error F (hundredth u) ds (part t (100 * u) 0) (parts t (100 * u))) q (alternating F z c ds) (exactAlternating (r * r) (q * q) (part t (100 * u) 0) (parts t (100 * u))) hr hq near-alternating)
     (ap (λ (k : ℕ). pos (q * alternating F z c ds / r) *ℤ pos k) (den-is r t u)) (ap (λ (x : ℤ). x *ℤ pos F) (series-is q r t (100 * u)))
     (le-trans (N.mul-le-mul-right (r * (hundredth u * W)) he) (le-of-eq (alg e r (hundredth u * W) ∙ ap (λ (k : ℕ). e * k) (sym (den-is r t u)))))
   where
@@ -141,9 +141,9 @@ series-near F r s t u c ds hF hr hs hm rs test q hq e he =
     W : ℕ
     W = power (r * r) (parts t (100 * u))
 
-    near-nested : Near (pos (alternating F z c ds) *ℤ pos (100 * (hundredth u * W))) (exactNested (r * r) (q * q) (part t (100 * u) 0) (parts t (100 * u)) *ℤ pos F)
+    near-alternating : Near (pos (alternating F z c ds) *ℤ pos (100 * (hundredth u * W))) (exactAlternating (r * r) (q * q) (part t (100 * u) 0) (parts t (100 * u)) *ℤ pos F)
         (error F (hundredth u) ds (part t (100 * u) 0) (parts t (100 * u)) * (hundredth u * W))
-    near-nested = alternating-near F (r * r) (q * q) z (hundredth u) hF hm squares z-small z-near c ds (part t (100 * u) 0) (parts t (100 * u)) test .close
+    near-alternating = alternating-near F (r * r) (q * q) z (hundredth u) hF hm squares z-small z-near c ds (part t (100 * u) 0) (parts t (100 * u)) test .close
 
 -- ---- at ours
 

@@ -1,6 +1,5 @@
 -- The exact sine and cosine of A / Q turns, in whole numbers: each is a numerator over `sineDen Q`.
 -- Q is a multiple of 4, and A is below Q, since whole turns are removed.
--- Assumes nothing.
 use mathlib.Core.Bool.{cond}
 use Prim.Native.Nat.{ℕ, _+_, _*_, _-_, _/_, _%_, _^_}
 use lib.Dec.{leb}
@@ -18,6 +17,7 @@ turnDen = 10 ^ 24
 unfoldable pub S : ℕ → ℕ → ℤ
 S Q A = series (pos (A * turnNum)) (pos (Q * turnDen))
 
+-- the denominator of S, and of the sine and the cosine
 unfoldable pub sineDen : ℕ → ℕ
 sineDen Q = (Q * turnDen) ^ 23 * factorial 23
 

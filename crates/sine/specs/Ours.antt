@@ -1,5 +1,4 @@
 -- Our sine and cosine in whole numbers. An angle b is in units of 2^-41 turn, below 2^41; the answer is in units of 2^-31.
--- Assumes nothing.
 use mathlib.Core.List.{List, [], _∷_}
 use Prim.Native.Nat.{ℕ, _+_, _*_, _-_, _/_, _%_, _^_}
 use lib.IntN.{ℤ, pos}
@@ -29,5 +28,6 @@ quarterTurn r = pos (sineQuarter (r / 2 ^ 9))
 unfoldable pub ourSine : ℕ → ℤ
 ourSine b = wholeTurn quarterTurn (2 ^ 41) b
 
+-- the sine of a quarter turn more, whole turns removed
 unfoldable pub ourCosine : ℕ → ℤ
 ourCosine b = ourSine ((b + 2 ^ 39) % 2 ^ 41)

@@ -1,9 +1,9 @@
 -- The first twelve terms of the sine's series x − x^3/3! + x^5/5! − .., at x = X / D, over the denominator D^23 * 23!.
--- Assumes nothing.
 use Prim.Native.Nat.{ℕ, zero, suc, _*_, _-_, _/_}
 use lib.IntN.{ℤ, pos, _*ℤ_, pow}
 use Rattle.algebra.specs.Integers.{−_, sumℤ}
 
+-- n!
 abbrev pub factorial : ℕ → ℕ
 factorial zero = 1
 factorial (suc n) = suc n * factorial n

@@ -7,7 +7,7 @@ ghost use Rattle.sine.specs.Exact.{halfTurn};
 ghost use Rattle.sine.specs.Ours.{sineQuarter, quarterTurn, ourSine, ourCosine};
 
 // A turn, in units of 2^-41 turn.
-const TURN: u64 = 1 << 41;
+pub const TURN: u64 = 1 << 41;
 
 // A half turn.
 const HALF: u64 = 1 << 40;
@@ -30,23 +30,29 @@ const ONE: u64 = 1 << 31;
 // The square of q / 2^30, in units of 2^-31.
 fn square(q: u64) -> u64
     requires { ⌜ q ≤ 2 ^ 30 ⌝ }
-    ensures { λ r. ⌜ (r ≡ q * q / 2 ^ 29) × (r ≤ 2 ^ 31) ⌝ }
+    ensures value { λ r. ⌜ r ≡ q * q / 2 ^ 29 ⌝ }
+    ensures most { λ r. ⌜ r ≤ 2 ^ 31 ⌝ }
 {
     q * q / SQUARES
 }
 
 // c - z*p, in units of 2^-31.
 fn step(c: u64, z: u64, p: u64) -> u64
-    requires { ⌜ (z ≤ 2 ^ 31) × (p ≤ c) × (c < 2 ^ 32) ⌝ }
-    ensures { λ r. ⌜ (r ≡ c - z * p / 2 ^ 31) × (r ≤ c) ⌝ }
+    requires square { ⌜ z ≤ 2 ^ 31 ⌝ }
+    requires next { ⌜ p ≤ c ⌝ }
+    requires constant { ⌜ c < 2 ^ 32 ⌝ }
+    ensures value { λ r. ⌜ r ≡ c - z * p / 2 ^ 31 ⌝ }
+    ensures most { λ r. ⌜ r ≤ c ⌝ }
 {
     c - z * p / ONE
 }
 
 // q / 2^30 times p.
 fn scaled(q: u64, p: u64) -> u64
-    requires { ⌜ (q ≤ 2 ^ 30) × (p < 2 ^ 32) ⌝ }
-    ensures { λ r. ⌜ (r ≡ q * p / 2 ^ 30) × (r ≤ p) ⌝ }
+    requires parts { ⌜ q ≤ 2 ^ 30 ⌝ }
+    requires factor { ⌜ p < 2 ^ 32 ⌝ }
+    ensures value { λ r. ⌜ r ≡ q * p / 2 ^ 30 ⌝ }
+    ensures most { λ r. ⌜ r ≤ p ⌝ }
 {
     q * p / PARTS
 }
@@ -54,7 +60,8 @@ fn scaled(q: u64, p: u64) -> u64
 // The sine of q of 2^30 parts of a quarter turn.
 fn sine_quarter(q: u64) -> u64
     requires { ⌜ q ≤ 2 ^ 30 ⌝ }
-    ensures { λ r. ⌜ (r ≡ sineQuarter q) × (r < 2 ^ 32) ⌝ }
+    ensures value { λ r. ⌜ r ≡ sineQuarter q ⌝ }
+    ensures below { λ r. ⌜ r < 2 ^ 32 ⌝ }
 {
     let z = square(q);
     let p6 = step(122, z, 1);
@@ -70,7 +77,8 @@ fn sine_quarter(q: u64) -> u64
 // An angle up to a half turn, reflected in the quarter turn. The functions that choose are small, so that they compile to no branch.
 fn reflected(a: u64) -> u64
     requires { ⌜ a ≤ 2 ^ 40 ⌝ }
-    ensures { λ r. ⌜ (quarterTurn r ≡ halfTurn quarterTurn (2 ^ 41) a) × (r ≤ 2 ^ 39) ⌝ }
+    ensures value { λ r. ⌜ quarterTurn r ≡ halfTurn quarterTurn (2 ^ 41) a ⌝ }
+    ensures most { λ r. ⌜ r ≤ 2 ^ 39 ⌝ }
 {
     if a <= QUARTER { a } else { HALF - a }
 }
@@ -78,7 +86,8 @@ fn reflected(a: u64) -> u64
 // The sine up to a half turn.
 fn sine_half(a: u64) -> u64
     requires { ⌜ a ≤ 2 ^ 40 ⌝ }
-    ensures { λ r. ⌜ (pos r ≡ halfTurn quarterTurn (2 ^ 41) a) × (r < 2 ^ 32) ⌝ }
+    ensures value { λ r. ⌜ pos r ≡ halfTurn quarterTurn (2 ^ 41) a ⌝ }
+    ensures below { λ r. ⌜ r < 2 ^ 32 ⌝ }
 {
     sine_quarter(reflected(a) / PART)
 }
@@ -86,7 +95,9 @@ fn sine_half(a: u64) -> u64
 // An angle less a half turn, if it is above one.
 fn lowered(a: u64) -> u64
     requires { ⌜ a < 2 ^ 41 ⌝ }
-    ensures { λ r. ⌜ (a ≤ 2 ^ 40 → r ≡ a) × (2 ^ 40 < a → r ≡ a - 2 ^ 40) × (r ≤ 2 ^ 40) ⌝ }
+    ensures first { λ r. ⌜ (a ≤ 2 ^ 40 → r ≡ a) ⌝ }
+    ensures second { λ r. ⌜ (2 ^ 40 < a → r ≡ a - 2 ^ 40) ⌝ }
+    ensures most { λ r. ⌜ r ≤ 2 ^ 40 ⌝ }
 {
     if a <= HALF { a } else { a - HALF }
 }
@@ -94,7 +105,8 @@ fn lowered(a: u64) -> u64
 // The number v, or minus v for an angle above a half turn.
 fn signed(a: u64, v: u64) -> i64
     requires { ⌜ v < 2 ^ 32 ⌝ }
-    ensures { λ r. ⌜ (a ≤ 2 ^ 40 → r ≡ pos v) × (2 ^ 40 < a → r ≡ negℤ (pos v)) ⌝ }
+    ensures first { λ r. ⌜ (a ≤ 2 ^ 40 → r ≡ pos v) ⌝ }
+    ensures second { λ r. ⌜ (2 ^ 40 < a → r ≡ negℤ (pos v)) ⌝ }
 {
     if a <= HALF { v as i64 } else { 0 - (v as i64) }
 }

@@ -7,6 +7,7 @@ use lib.Ieee.{Float, binary64, round, fin}
 
 infixl 6 _⊕_ _⊖_
 infixl 7 _⊗_ _⊘_
+-- sum, difference, product and quotient
 abbrev pub _⊕_ : Float → Float → Float
 a ⊕ b = Ieee.add binary64 a b
 

@@ -7,6 +7,7 @@ use Rattle.tide.specs.Binary64.{_⊕_, _⊖_, _⊗_, plus, minus}
 unfoldable pub horner : (t c0 c1 c2 c3 c4 : Float) → Float
 horner t c0 c1 c2 c3 c4 = c0 ⊕ t ⊗ (c1 ⊕ t ⊗ (c2 ⊕ t ⊗ (c3 ⊕ t ⊗ c4)))
 
+-- l, l', F, D and Omega
 unfoldable pub F1 : Float → Float
 unfolding horner
 F1 t = horner t (plus 134_9634025100) (plus 477198_8675605000) (plus 0_0088553333) (plus 0_0000143431) (minus 0_0000000680)
@@ -27,6 +28,7 @@ unfoldable pub F5 : Float → Float
 unfolding horner
 F5 t = horner t (plus 125_0445550100) (minus 1934_1362619722) (plus 0_0020756111) (plus 0_0000021394) (minus 0_0000000165)
 
+-- their frequencies
 unfoldable pub FD1 : Float → Float
 FD1 t = plus 0_0362916471 ⊕ plus 0_0000000013 ⊗ t
 

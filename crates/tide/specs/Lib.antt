@@ -1,5 +1,7 @@
--- Frequency and phase of a tidal constituent. Read Binary64, Delaunay and Tidal; Claims has the words of what is proved of them.
+-- Frequency and phase of a tidal constituent. Read Binary64, Delaunay and Tidal; Claims has the words of what is proved of them;
+-- Inner serves the code's own contracts.
 pub mod Binary64
 pub mod Delaunay
 pub mod Tidal
 pub mod Claims
+pub mod Inner

@@ -80,16 +80,13 @@ constituentOf a k = record {
 abbrev pub inRange : ℤ → Bool
 inRange z = leZ (negℤ (pos 12)) z && leZ z (pos 12)
 
+-- all six are
 unfoldable pub allInRange : Doodson → Bool
 allInRange k = ((((inRange (k .k1) && inRange (k .k2)) && inRange (k .k3)) && inRange (k .k4)) && inRange (k .k5)) && inRange (k .k6)
 
 -- the refusal of six multipliers
 abbrev pub rangeCases : Doodson → List Case
 rangeCases k = case 11 (not (allInRange k)) ∷ []
-
--- from arguments at hand: both numbers, or the multipliers' refusal
-unfoldable pub answerOf : Arguments → Doodson → TideAnswer
-answerOf a k = refusedOr NoTide (rangeCases k) (Tide (constituentOf a k))
 
 -- the refusals of an instant and of six multipliers
 abbrev pub tideCases : (d : ℤ) (m : ℕ) → Doodson → List Case

@@ -10,7 +10,8 @@ ghost use Rattle.instants.specs.Limits.{dayMicros};
 ghost use Rattle.instants.specs.Instants.{IsAccepted};
 ghost use Rattle.tide.specs.Binary64.{_⊗_, whole};
 ghost use Rattle.tide.specs.Delaunay.{horner};
-ghost use Rattle.tide.specs.Tidal.{dayFraction, centuries, argumentsOf, argumentsAt, sumOfProducts, settled, reduced, inRange, allInRange, answerOf, tideOf, frequencyOf, phaseOf, tideRefusalOf};
+ghost use Rattle.tide.specs.Tidal.{dayFraction, centuries, argumentsOf, argumentsAt, sumOfProducts, settled, reduced, inRange, allInRange, tideOf, frequencyOf, phaseOf, tideRefusalOf};
+ghost use Rattle.tide.specs.Inner.{answerOf};
 
 // The six multipliers of a constituent.
 pub struct Doodson {
@@ -229,7 +230,7 @@ fn answer_from(a: Arguments, k: Doodson) -> TideAnswer
 }
 
 // The frequency and phase of a constituent at an instant, or the first refusal: of the instant, then of the multipliers.
-pub fn frequency_and_phase(day: i64, micros: u64, k: Doodson) -> TideAnswer
+pub fn tide_of(day: i64, micros: u64, k: Doodson) -> TideAnswer
     ensures { λ r. ⌜ r ≡ tideOf day micros k ⌝ }
 {
     match instants::accept(day, micros) {

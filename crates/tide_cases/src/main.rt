@@ -29,7 +29,7 @@ fn show(day: i64, micros: u64, k1: i64, k2: i64, k3: i64, k4: i64, k5: i64, k6: 
         k5,
         k6,
     };
-    let a = tide::frequency_and_phase(day, micros, k);
+    let a = tide::tide_of(day, micros, k);
     io::print_decimal(STDOUT_FILENO, tide::refusal(a) as u64);
     io::write_all(STDOUT_FILENO, b" ");
     io::print_hex(STDOUT_FILENO, bits(tide::frequency(a)), 16);

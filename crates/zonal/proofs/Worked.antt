@@ -25,11 +25,12 @@ use Rattle.zonal.proofs.Promises.{accepted-near, accepted-given}
 
 -- ---- the test case
 
--- it is accepted, and so is the day after
+-- PROMISE. An accepted instant exists: that of the test case.
 pub case-accepted : IsAccepted (+ 54465) 0
 unfolding acceptance outside dayIndex
 case-accepted = refl
 
+-- the day after is accepted too
 pub next-accepted : IsAccepted (+ 54466) 0
 unfolding acceptance outside dayIndex
 next-accepted = refl

@@ -1,5 +1,4 @@
 -- The exact zonal sums (docs/RULES.md) at n microseconds since J2000.0: whole numbers, over one denominator.
--- Assumes nothing.
 use mathlib.Core.List.{[]}
 use Prim.Native.Nat.{ℕ}
 use lib.IntN.{ℤ, _+ℤ_, _*ℤ_}
@@ -21,9 +20,11 @@ coefficient r j = getD (getD coefficients r []) j (+ 0)
 unfoldable pub ut1Sum : (sine cosine : ℕ → ℤ) → ℤ
 ut1Sum sine cosine = sumℤ rows (λ r. coefficient r 0 *ℤ sine r +ℤ coefficient r 1 *ℤ cosine r)
 
+-- that of length of day
 unfoldable pub lodSum : (sine cosine : ℕ → ℤ) → ℤ
 lodSum sine cosine = sumℤ rows (λ r. coefficient r 2 *ℤ cosine r +ℤ coefficient r 3 *ℤ sine r)
 
+-- that of the rate
 unfoldable pub rateSum : (sine cosine : ℕ → ℤ) → ℤ
 rateSum sine cosine = sumℤ rows (λ r. coefficient r 4 *ℤ cosine r +ℤ coefficient r 5 *ℤ sine r)
 

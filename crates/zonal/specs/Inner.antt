@@ -1,5 +1,4 @@
 -- What only the contracts of the code's own functions cite.
--- Assumes nothing.
 use mathlib.Core.Path.{_≡_}
 use mathlib.Core.List.{List}
 use Prim.Native.Nat.{ℕ, _+_, _-_, _^_, _≤_, _<_}
@@ -13,10 +12,11 @@ use Rattle.zonal.specs.Ours.{rowSine, rowCosine}
 abbrev pub term : ℕ → ℕ → ℤ → ℤ → ℤ
 term r j p q = coefficient r j *ℤ p +ℤ coefficient r (j + 1) *ℤ q
 
--- the most that a sum is at any row, in magnitude, and a number's factor times its sum
+-- the most that a sum is at any row, in magnitude
 abbrev pub sumMost : ℕ
 sumMost = 2 ^ 63 - 2 ^ 58
 
+-- the most that a number's factor times its sum is, in magnitude
 abbrev pub productMost : ℕ
 productMost = 2 ^ 62 - 2 ^ 31
 

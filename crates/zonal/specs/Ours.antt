@@ -1,5 +1,4 @@
 -- Our corrections: three whole numbers, and the answer for every day number and every number of microseconds.
--- Assumes nothing.
 use Prim.Native.Nat.{ℕ, _^_}
 use lib.IntN.{ℤ, _+ℤ_, _*ℤ_}
 use lib.Signed.{shrZ}
@@ -37,6 +36,7 @@ ourLod x = rounded (+ 1000) (lodSum (rowSine x) (rowCosine x))
 abbrev pub ourRate : ℕ → ℤ
 ourRate x = rounded (+ 100) (rateSum (rowSine x) (rowCosine x))
 
+-- the three numbers together
 abbrev pub corrections : (ut1 lod rate : ℤ) → Corrections
 corrections a b c = record { ut1 = a; lod = b; rate = c }
 
@@ -48,7 +48,7 @@ correctionsAt i m = corrections (ourUt1 (moment i m)) (ourLod (moment i m)) (our
 unfoldable pub zonalOf : ℤ → ℕ → ZonalAnswer
 zonalOf d m = refusedOr NoZonal (instantCases d m) (Zonal (correctionsAt (dayIndex d) m))
 
--- the numbers that the exported calls give for an answer
+-- The numbers that the exported calls give: each of the three, 0 on a refusal, and the refusal number, 0 for none.
 abbrev pub ut1Of : ZonalAnswer → ℤ
 ut1Of (Zonal c) = c .ut1
 ut1Of (NoZonal n) = + 0

@@ -1,5 +1,4 @@
 -- How near the exact sums an answer is.
--- Assumes nothing.
 use mathlib.Core.Path.{_≡_}
 use Prim.Native.Nat.{ℕ, _*_, _<_}
 use lib.IntN.{ℤ, _*ℤ_}
@@ -17,6 +16,7 @@ pub record Distances : Type 0 where
   pub lod : ℕ
   pub rate : ℕ
 
+-- the three together
 abbrev pub distances : (ut1 lod rate : ℕ) → Distances
 distances a b c = record { ut1 = a; lod = b; rate = c }
 

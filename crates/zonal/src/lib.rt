@@ -43,7 +43,9 @@ fn add_row(t: &[[i64; 6]; 62], row: usize, column: usize, total: i64, p: i64, q:
 
 // The sums over the rows of the table, whose two parts are lent.
 fn sum_rows(k: &[[i8; 5]; 62], t: &[[i64; 6]; 62], x: u64) -> Sums
-    requires { ⌜ (now k ≡ multipliers) × (now t ≡ coefficients) × (x ≤ latest) ⌝ }
+    requires multipliers { ⌜ now k ≡ multipliers ⌝ }
+    requires coefficients { ⌜ now t ≡ coefficients ⌝ }
+    requires moment { ⌜ x ≤ latest ⌝ }
     ensures { λ r. ⌜ r ≡ sumsAt x ⌝ }
 {
     let a = arguments::arguments(x);
@@ -66,7 +68,8 @@ fn sum_rows(k: &[[i8; 5]; 62], t: &[[i64; 6]; 62], x: u64) -> Sums
 // The sums at a moment, with the multipliers lent. Each part of the table is named in one of these two functions and nowhere else, so that it is
 // made once for an instant.
 fn sums_with(k: &[[i8; 5]; 62], x: u64) -> Sums
-    requires { ⌜ (now k ≡ multipliers) × (x ≤ latest) ⌝ }
+    requires multipliers { ⌜ now k ≡ multipliers ⌝ }
+    requires moment { ⌜ x ≤ latest ⌝ }
     ensures { λ r. ⌜ r ≡ sumsAt x ⌝ }
 {
     let t = table::COEFFICIENTS;
@@ -95,7 +98,8 @@ fn rounded(f: i64, v: i64) -> i32
 
 // The corrections of a day's index, counted from 1600-01-01, and the microseconds of that day.
 fn corrections_at(index: u64, micros: u64) -> Corrections
-    requires { ⌜ (index < daysCovered) × (micros < dayMicros) ⌝ }
+    requires index { ⌜ index < daysCovered ⌝ }
+    requires micros { ⌜ micros < dayMicros ⌝ }
     ensures { λ r. ⌜ r ≡ ours.correctionsAt index micros ⌝ }
 {
     let v = table_sums(instants::moment(index, micros));

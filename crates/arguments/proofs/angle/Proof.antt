@@ -65,8 +65,8 @@ column-requires c κs =
     let top = c .before .before in
     let start = top .before in
     let j = top .loop .j in (
-      subst (λ (z : ℤ). Multiplier z) (sym (read (start .args .row) j (start .pre .1) (start .pre .0))) (row-range (start .args .row) (start .pre .1) j),
-      start .pre .2 j,
+      subst (λ (z : ℤ). Multiplier z) (sym (read (start .args .row) j (start .pre .1 .0) (start .pre .0))) (row-range (start .args .row) (start .pre .1 .0) j),
+      start .pre .1 .1 j,
     )
 
 add-sum : tie.Need-add-sum Inv-loop μ-loop
@@ -89,8 +89,8 @@ loop-again c =
       omega arith,
       omega (arith, c .column .ensures .1),
       columns-next ks xs (top .loop .sum) (c .column .result) (columns ks xs) (top .loop .j)
-          (row-length (start .args .row) (start .pre .1)) long (body .loop-test .taken)
-          (c .column .ensures .0 ∙ ap (λ (z : ℤ). column z (getD xs (top .loop .j) 0)) (read (start .args .row) (top .loop .j) (start .pre .1) (start .pre .0)))
+          (row-length (start .args .row) (start .pre .1 .0)) long (body .loop-test .taken)
+          (c .column .ensures .0 ∙ ap (λ (z : ℤ). column z (getD xs (top .loop .j) 0)) (read (start .args .row) (top .loop .j) (start .pre .1 .0) (start .pre .0)))
           (top .loop .inv .2),
     )
 
@@ -99,7 +99,7 @@ returns c =
     let top = c .before in
     let start = top .before in
     ap (λ (n : ℕ). n % 2 ^ 41)
-    (omega (arith, columns-end (getD multipliers (start .args .row) []) (start .args .t3) (top .loop .j) (omega (arith, row-length (start .args .row) (start .pre .1)))))
+    (omega (arith, columns-end (getD multipliers (start .args .row) []) (start .args .t3) (top .loop .j) (omega (arith, row-length (start .args .row) (start .pre .1 .0)))))
 
 pub angle-spec : {M : Type 1} → statement M
 angle-spec =

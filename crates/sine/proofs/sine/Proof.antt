@@ -22,7 +22,7 @@ returns c =
     let l = c .before .before .lowered in
     let h = c .before .sine-half in
     toZ-ofZ (search needs)
-    ∙ whole-by (c .before .before .before .args .b % 2 ^ 41) (l .result) (h .result) (c .signed .result) (l .ensures .0) (l .ensures .1) (h .ensures .0) (c .signed .ensures .0) (c .signed .ensures .1)
+    ∙ whole-by (c .before .before .before .args .b % 2 ^ 41) (l .result) (h .result) (c .signed .result) (l .ensures .0) (l .ensures .1 .0) (h .ensures .0) (c .signed .ensures .0) (c .signed .ensures .1)
 
 pub sine-spec : {M : Type 1} → statement M
 sine-spec = tie.close (tie.spec lowered-requires sine-half-requires signed-requires returns)

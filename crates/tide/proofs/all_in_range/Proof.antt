@@ -23,10 +23,16 @@ in-range-requires-5 c κs = search needs
 in-range-requires-6 : tie.Need-in-range-requires-6
 in-range-requires-6 c κs = search needs
 
+-- the places after each call, from the last back to the entry
 returns : tie.Need-returns
 unfolding allInRange
 returns c =
-    let start = c .before .before .before .before .before .before .before .before .before .before .before .before in
+    let fifth = c .before .before in
+    let fourth = fifth .before .before in
+    let third = fourth .before .before in
+    let second = third .before .before in
+    let first = second .before .before in
+    let start = first .before .before in
     let b = each-back (start .args .k) (c .before .struct-told6 .given) in
     cc
 

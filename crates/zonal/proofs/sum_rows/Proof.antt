@@ -95,7 +95,7 @@ module _ (c : tie.After-cosine Inv-loop μ-loop) where
   row = so-far .loop .row
 
   table : entry so-far .args .t .now ≡ coefficients
-  table = entry so-far .pre .1
+  table = entry so-far .pre .1 .0
 
   taken : row < rows
   taken = body .loop-test .taken
@@ -123,8 +123,7 @@ angle-requires : tie.Need-angle-requires Inv-loop μ-loop
 angle-requires c κs =
     let start = entry (c .before) in (
       start .pre .0,
-      c .loop-test .taken,
-      λ j. subst (λ (l : List ℕ). getD l j 0 ≤ 2 ^ 41) (sym (c .before .before .arguments .ensures)) (le-of-lt (arguments-less (start .args .x) j)),
+      (c .loop-test .taken, λ j. subst (λ (l : List ℕ). getD l j 0 ≤ 2 ^ 41) (sym (c .before .before .arguments .ensures)) (le-of-lt (arguments-less (start .args .x) j))),
     )
 
 sine-requires : tie.Need-sine-requires Inv-loop μ-loop

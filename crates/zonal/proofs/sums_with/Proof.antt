@@ -5,7 +5,7 @@ use Rattle.zonal.proofs.sums_with.Statement.{statement}
 use Rattle.zonal.proofs.sums_with.Tie as tie
 
 sum-rows-requires : tie.Need-sum-rows-requires
-sum-rows-requires c κs = (c .before .pre .0, refl, c .before .pre .1)
+sum-rows-requires c κs = (c .before .pre .0, (refl, c .before .pre .1))
 
 returns : tie.Need-returns
 returns c = c .sum-rows .ensures

@@ -6,8 +6,8 @@ use Rattle.tide.proofs.Signed.{asked-back}
 use Rattle.enfysgar.proofs.tide_calls.enfys_tide_frequency.Statement.{statement}
 use Rattle.enfysgar.proofs.tide_calls.enfys_tide_frequency.Tie as tie
 
-frequency-and-phase-requires : tie.Need-frequency-and-phase-requires
-frequency-and-phase-requires c κs = search needs
+tide-of-requires : tie.Need-tide-of-requires
+tide-of-requires c κs = search needs
 
 frequency-requires : tie.Need-frequency-requires
 frequency-requires c κs = search needs
@@ -16,8 +16,8 @@ returns : tie.Need-returns
 returns c =
     let s = c .before .before in
     let h = s .fits in
-    c .frequency .ensures ∙ ap frequencyOf (c .before .frequency-and-phase .ensures ∙ asked-back (s .args .micros) (h .day) (h .k1) (h .k2) (h .k3) (h .k4) (h .k5) (h .k6))
+    c .frequency .ensures ∙ ap frequencyOf (c .before .tide-of .ensures ∙ asked-back (s .args .micros) (h .day) (h .k1) (h .k2) (h .k3) (h .k4) (h .k5) (h .k6))
 
 pub enfys-tide-frequency-spec : {M : Type 1} → statement M
 enfys-tide-frequency-spec =
-    tie.close (tie.spec frequency-and-phase-requires frequency-requires returns)
+    tie.close (tie.spec tide-of-requires frequency-requires returns)

@@ -1,4 +1,4 @@
--- `tide::frequency_and_phase` meets its contract, by the two cases of acceptance. Assumes nothing.
+-- `tide::tide_of` meets its contract, by the two cases of acceptance. Assumes nothing.
 use mathlib.Core.Path.{_≡_, _∙_, ap, sym}
 use borrow.Author.Needs.{needs}
 use lib.IntN.{ℤ}
@@ -7,9 +7,10 @@ use Rattle.instants.specs.declared.Acceptance.the-variants.{Accepted}
 use Rattle.instants.specs.Instants.{acceptance, dayIndex}
 use Rattle.instants.proofs.Accepted.{accepted-at, refused-too, answered-too}
 use Rattle.tide.specs.declared.TideAnswer.the-variants.{NoTide}
-use Rattle.tide.specs.Tidal.{answerOf, tideOf}
-use Rattle.tide.proofs.frequency_and_phase.Statement.{statement}
-use Rattle.tide.proofs.frequency_and_phase.Tie as tie
+use Rattle.tide.specs.Tidal.{tideOf}
+use Rattle.tide.specs.Inner.{answerOf}
+use Rattle.tide.proofs.tide_of.Statement.{statement}
+use Rattle.tide.proofs.tide_of.Tie as tie
 
 says : (c : tie.After-accept) → c .accept .result ≡ acceptance (c .before .args .day) (c .before .args .micros)
 says c = c .accept .ensures ∙ ap (λ (d : ℤ). acceptance d (c .before .args .micros)) (toZ-ofZ (c .before .fits .day))
@@ -52,8 +53,8 @@ returns-2 : tie.Need-returns-2
 unfolding tideOf
 returns-2 c = refused-too NoTide _ _ _ (sym (says (c .before .before .before)) ∙ c .before .n .given .1)
 
-pub frequency-and-phase-spec : {M : Type 1} → statement M
-frequency-and-phase-spec =
+pub tide-of-spec : {M : Type 1} → statement M
+tide-of-spec =
     tie.close
     (tie.spec
     accept-requires

@@ -27,19 +27,19 @@ abbrev pub power : ℕ → List ℕ → ℕ
 power W [] = 1
 power W (a ∷ bs) = W * power W bs
 
-abbrev pub exactNested : ℕ → ℕ → ℕ → List ℕ → ℤ
-exactNested W w a [] = pos a
-exactNested W w a (b ∷ bs) = pos (a * (W * power W bs)) -ℤ pos w *ℤ exactNested W w b bs
+abbrev pub exactAlternating : ℕ → ℕ → ℕ → List ℕ → ℤ
+exactAlternating W w a [] = pos a
+exactAlternating W w a (b ∷ bs) = pos (a * (W * power W bs)) -ℤ pos w *ℤ exactAlternating W w b bs
 
 abbrev pub total : List ℕ → ℕ
 total [] = 0
 total (a ∷ bs) = a + total bs
 
-exact-small : (W w : ℕ) → w ≤ W → (a : ℕ) (bs : List ℕ) → natAbs (exactNested W w a bs) ≤ (a + total bs) * power W bs
+exact-small : (W w : ℕ) → w ≤ W → (a : ℕ) (bs : List ℕ) → natAbs (exactAlternating W w a bs) ≤ (a + total bs) * power W bs
 exact-small W w h a [] = omega arith
 exact-small W w h a (b ∷ bs) =
-    le-trans (abs-sum (pos (a * (W * power W bs))) (negℤ (pos w *ℤ exactNested W w b bs)) refl (N.le-refl (a * (W * power W bs)))
-    (le-trans (le-of-eq (abs-neg (pos w *ℤ exactNested W w b bs) ∙ abs-mul (pos w) (exactNested W w b bs))) (mul-le-mul h (exact-small W w h b bs))))
+    le-trans (abs-sum (pos (a * (W * power W bs))) (negℤ (pos w *ℤ exactAlternating W w b bs)) refl (N.le-refl (a * (W * power W bs)))
+    (le-trans (le-of-eq (abs-neg (pos w *ℤ exactAlternating W w b bs) ∙ abs-mul (pos w) (exactAlternating W w b bs))) (mul-le-mul h (exact-small W w h b bs))))
     (omega arith)
 
 -- ---- the tests of the constants
@@ -101,11 +101,11 @@ module _ (F W w z m : ℕ) (hF : 0 < F) (hm : 0 < m) (hw : w ≤ W) (hz : z ≤ 
   -- ---- all of them
 
   -- what follows the first constant
-  rest : (a : ℕ) (bs : List ℕ) → Near (pos (a * power W bs)) (exactNested W w a bs) (total bs * power W bs)
+  rest : (a : ℕ) (bs : List ℕ) → Near (pos (a * power W bs)) (exactAlternating W w a bs) (total bs * power W bs)
   rest a [] = near-as (near-refl (pos a)) (ap pos (N.mul-one a)) refl (omega arith)
   rest a (b ∷ bs) =
-      near (pos (a * (W * power W bs))) (exactNested W w a (b ∷ bs))
-      (le-trans (le-of-eq (ap natAbs (alg (pos (a * (W * power W bs))) (pos w *ℤ exactNested W w b bs)) ∙ abs-mul (pos w) (exactNested W w b bs)))
+      near (pos (a * (W * power W bs))) (exactAlternating W w a (b ∷ bs))
+      (le-trans (le-of-eq (ap natAbs (alg (pos (a * (W * power W bs))) (pos w *ℤ exactAlternating W w b bs)) ∙ abs-mul (pos w) (exactAlternating W w b bs)))
       (le-trans (mul-le-mul hw (exact-small W w hw b bs)) (omega arith)))
     where
       alg : (x y : ℤ) → x -ℤ (x -ℤ y) ≡ y
@@ -117,13 +117,13 @@ module _ (F W w z m : ℕ) (hF : 0 < F) (hm : 0 < m) (hw : w ≤ W) (hz : z ≤ 
 
   pub record Good (c : ℕ) (ds : List ℕ) (a : ℕ) (bs : List ℕ) : Type 0 where
     pub small : alternating F z c ds ≤ c
-    pub close : Near (pos (alternating F z c ds) *ℤ pos (100 * (m * power W bs))) (exactNested W w a bs *ℤ pos F) (error F m ds a bs * (m * power W bs))
+    pub close : Near (pos (alternating F z c ds) *ℤ pos (100 * (m * power W bs))) (exactAlternating W w a bs *ℤ pos F) (error F m ds a bs * (m * power W bs))
 
   last : (c a : ℕ) (bs : List ℕ) → T (nearest F m c a)
-      → Near (pos c *ℤ pos (100 * (m * power W bs))) (exactNested W w a bs *ℤ pos F) ((50 + suc (total bs * F / m)) * (m * power W bs))
+      → Near (pos c *ℤ pos (100 * (m * power W bs))) (exactAlternating W w a bs *ℤ pos F) ((50 + suc (total bs * F / m)) * (m * power W bs))
   last c a bs t =
       near-as (near-trans (near-scale (pos (power W bs)) (constant c a t)) (near-as (near-scale (pos F) (rest a bs)) (alg (pos a) (pos (power W bs)) (pos F)) refl (N.le-refl _)))
-      (ring (pos c ▸ pos m ▸ pos (power W bs) ▸ end) (search quote depth 13) tt) (ring (exactNested W w a bs ▸ pos F ▸ end) (search quote depth 13) tt)
+      (ring (pos c ▸ pos m ▸ pos (power W bs) ▸ end) (search quote depth 13) tt) (ring (exactAlternating W w a bs ▸ pos F ▸ end) (search quote depth 13) tt)
       (omega (arith, N.mul-le-mul-right (power W bs) (ceiling (total bs * F))))
     where
       alg : (a p f : ℤ) → p *ℤ (a *ℤ f) ≡ f *ℤ (a *ℤ p)
@@ -142,7 +142,7 @@ module _ (F W w z m : ℕ) (hF : 0 < F) (hm : 0 < m) (hw : w ≤ W) (hz : z ≤ 
       let less : q ≤ c = le-trans (N.div-le-of-le-mul F (mul-le-mul hz (le-trans (g .small) (leb→le d c (v .0))))) (N.le-refl c) in
       record {
         small = N.sub-le c q;
-        close = near-as (step (power W bs) (suc ((b + total bs) / m)) (error F m ds b bs) c a (pos p) (exactNested W w b bs) (pos q)
+        close = near-as (step (power W bs) (suc ((b + total bs) / m)) (error F m ds b bs) c a (pos p) (exactAlternating W w b bs) (pos q)
             (le-trans (exact-small W w hw b bs) (omega (arith, N.mul-le-mul-right (power W bs) (ceiling (b + total bs)))))
             (constant c a (u .0)) (g .close) (near-wide (near-floor (z * p) F hF) (N.sub-le F 1)))
             (ap (λ (y : ℤ). y *ℤ pos (100 * (m * (W * power W bs)))) (pos-sub less)) refl (N.le-refl _);
