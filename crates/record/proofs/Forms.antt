@@ -16,7 +16,8 @@ use Rattle.clock.specs.Words.{markUnit, joinCases, joinOf}
 use Rattle.record.specs.declared.Record.{Record}
 use Rattle.record.specs.declared.ReadAnswer.the-variants.{IsRecord, NoRecord}
 use Rattle.record.specs.Format.{recordLength, version, lengthField, versionField, zeroField, dayField, timeField, fieldAt}
-use Rattle.record.specs.Records.{formCases, formRefusal, readCases, recordOf, readOf}
+use Rattle.record.specs.Records.{recordWith, formCases, readCases, recordOf, readOf}
+use Rattle.record.specs.Inner.{formRefusal}
 
 -- bytes of the right form
 pub record Formed (s : List ℕ) : Type 0 where
@@ -92,5 +93,5 @@ module _ (s : List ℕ) (e : formRefusal s ≡ 0) where
 
 -- records with equal numbers
 pub alike : (d : ℤ) (m : ℕ) {x x' y y' u u' : ℤ} → x ≡ x' → y ≡ y' → u ≡ u'
-    → IsRecord (record { day = d; micros = m; ut1 = x; lod = y; rate = u }) ≡ IsRecord (record { day = d; micros = m; ut1 = x'; lod = y'; rate = u' })
+    → IsRecord (recordWith d m x y u) ≡ IsRecord (recordWith d m x' y' u')
 alike d m p q r = simp (p, q, r)

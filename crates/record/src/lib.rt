@@ -10,8 +10,8 @@ ghost use mir.Syntax.{w32};
 ghost use mir.Val.{SFits};
 ghost use Rattle.bigendian.specs.Numbers.{twosComplement};
 ghost use Rattle.record.specs.Format.{fieldAt, fieldBytes, recordBytes};
-ghost use Rattle.record.specs.Inner.{withField};
-ghost use Rattle.record.specs.Records.{writeRefusal, written, formRefusal, readOf};
+ghost use Rattle.record.specs.Inner.{withField, formRefusal};
+ghost use Rattle.record.specs.Records.{writeRefusal, written, readOf};
 
 // The bytes of a record.
 pub const LENGTH: usize = 30;

@@ -8,7 +8,7 @@ use lib.Dec.{eqb, ltb}
 use lib.ListN.{length}
 use denote.Ref.{now}
 use Rattle.record.specs.Format.{recordLength, version, lengthField, versionField, zeroField, fieldAt}
-use Rattle.record.specs.Records.{formRefusal}
+use Rattle.record.specs.Inner.{formRefusal}
 use borrow.Author.Needs.{needs}
 use Rattle.record.proofs.form.Statement.{statement}
 use Rattle.record.proofs.form.Tie as tie

@@ -14,7 +14,8 @@ use Rattle.instants.proofs.FirstRefusal.{refused-first}
 use Rattle.clock.specs.Words.{joinOf}
 use Rattle.record.specs.declared.ReadAnswer.the-variants.{NoRecord}
 use Rattle.record.specs.Format.{recordLength, dayField, timeField, fieldAt}
-use Rattle.record.specs.Records.{formCases, formRefusal, readOf}
+use Rattle.record.specs.Records.{formCases, readOf}
+use Rattle.record.specs.Inner.{formRefusal}
 use Rattle.record.proofs.Forms.{formed, read-refused, read-joined}
 use borrow.Author.Needs.{needs}
 use Rattle.record.proofs.read.Statement.{statement}
