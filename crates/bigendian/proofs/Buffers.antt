@@ -35,12 +35,6 @@ front-take b old n e = take-at b _ n e
 pub front-behind : (b old : List ℕ) (n : ℕ) → length b ≡ n → drop n (atFront b old) ≡ drop n old
 front-behind b old n e = rw (front-is b old n e) (drop-at b (drop n old) n e)
 
-pub front-byte : (b old : List ℕ) (i : ℕ) → length b ≤ i → getD (atFront b old) i 0 ≡ getD old i 0
-unfolding atFront
-front-byte b old i h =
-    let e : i ≡ length b + (i - length b) = omega arith in
-    rw e (getD-append-add b (drop (length b) old) (i - length b) 0 ∙ getD-drop (length b) old (i - length b) 0)
-
 -- one more piece, behind the first
 pub front-more : (b c old : List ℕ) (n : ℕ) → length b ≡ n → atFront (b ++ c) old ≡ b ++ atFront c (drop n old)
 unfolding atFront

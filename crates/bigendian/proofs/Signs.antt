@@ -27,29 +27,18 @@ pub twos-below : (k : ℕ) (z : ℤ) → FitsBytes k z → twosComplement k z < 
 twos-below k (pos n) h = omega arith
 twos-below k (negsuc n) h = omega arith
 
-pub twos-signed : (k n : ℕ) → n < 256 ^ k → twosComplement k (signedOf k n) ≡ n
+twos-signed : (k n : ℕ) → n < 256 ^ k → twosComplement k (signedOf k n) ≡ n
 twos-signed k n h = by (ltb n (256 ^ k / 2)) refl
   where
     by : (t : Bool) → ltb n (256 ^ k / 2) ≡ t → twosComplement k (cond t (pos n) (negsuc (256 ^ k - 1 - n))) ≡ n
     by true e = refl
     by false e = omega arith
 
-pub signed-twos : (k : ℕ) (z : ℤ) → FitsBytes k z → signedOf k (twosComplement k z) ≡ z
+signed-twos : (k : ℕ) (z : ℤ) → FitsBytes k z → signedOf k (twosComplement k z) ≡ z
 signed-twos k (pos n) h = simp (lt-ltb n (256 ^ k / 2) h)
 signed-twos k (negsuc n) h =
     let e : 256 ^ k - 1 - (256 ^ k - suc n) ≡ n = omega arith in
     simp (le-ltb (256 ^ k - suc n) (256 ^ k / 2) (omega arith)) (ap negsuc e)
-
--- one byte at least, so that half of 256^k is a whole number
-pub signed-fits : (k n : ℕ) → n < 256 ^ suc k → FitsBytes (suc k) (signedOf (suc k) n)
-signed-fits k n h = by (ltb n (256 ^ suc k / 2)) refl
-  where
-    half : 256 ^ suc k ≡ 2 * (256 ^ suc k / 2)
-    half = rw (pow-suc 256 k) (omega arith)
-
-    by : (t : Bool) → ltb n (256 ^ suc k / 2) ≡ t → FitsBytes (suc k) (cond t (pos n) (negsuc (256 ^ suc k - 1 - n)))
-    by true e = ltb-true n (256 ^ suc k / 2) e
-    by false e = omega (arith, half, ltb-false n (256 ^ suc k / 2) e)
 
 -- the bytes of a number that fits them read back as it
 pub read-signed : (p : List ℕ) (k : ℕ) (z : ℤ) (t : List ℕ) → FitsBytes k z → signedOf k (numberAt (p ++ (bytesOf k (twosComplement k z) ++ t)) (length p) k) ≡ z

@@ -47,10 +47,11 @@ abbrev pub andThen : Start → (ℕ → List ℕ → LineAnswer) → LineAnswer
 andThen (Number v s) f = f v s
 andThen NoNumber f = BadLine
 
--- the bytes that end a number
+-- the byte that ends each of the first four numbers
 abbrev pub space : ℕ
 space = 32
 
+-- the byte that ends the last number
 abbrev pub newline : ℕ
 newline = 10
 

@@ -1,4 +1,5 @@
--- What the form of bytes tells, and what reading them tells. Assumes nothing.
+-- Bytes are of the right form exactly when none of the cases of the form applies; then the cases of reading that are left are those of the clock words,
+-- so reading refuses or answers as joining the words does. Assumes nothing.
 use Prim.Native.Nat.{ℕ, _%_, _≤_}
 use mathlib.Core.Path.{_≡_, ap, _∙_}
 use mathlib.Core.List.{List}

@@ -26,7 +26,7 @@ recordWith d m ut1 lod rate = record { day = d; micros = m; ut1 = ut1; lod = lod
 abbrev pub writeCases : ℤ → ℕ → ℕ → List Case
 writeCases d m n = instantCases d m ++ (case 12 (ltb n recordLength) ∷ [])
 
--- the number of the first of them that applies, or 0
+-- the first refusal of writing, or 0
 unfoldable pub writeRefusal : ℤ → ℕ → ℕ → ℕ
 writeRefusal d m n = firstRefusal (writeCases d m n)
 
@@ -71,17 +71,17 @@ abbrev pub recordMicrosOf : ReadAnswer → ℕ
 recordMicrosOf (IsRecord r) = r .micros
 recordMicrosOf (NoRecord n) = 0
 
--- the number for UT1, or 0
+-- UT1, or 0
 abbrev pub recordUt1Of : ReadAnswer → ℤ
 recordUt1Of (IsRecord r) = r .ut1
 recordUt1Of (NoRecord n) = pos 0
 
--- the number for the length of day, or 0
+-- length of day, or 0
 abbrev pub recordLodOf : ReadAnswer → ℤ
 recordLodOf (IsRecord r) = r .lod
 recordLodOf (NoRecord n) = pos 0
 
--- the number for the rotation rate, or 0
+-- the rate, or 0
 abbrev pub recordRateOf : ReadAnswer → ℤ
 recordRateOf (IsRecord r) = r .rate
 recordRateOf (NoRecord n) = pos 0

@@ -16,9 +16,10 @@ ghost use Rattle.record.specs.Records.{writeRefusal, written, readOf};
 // The bytes of a record.
 pub const LENGTH: usize = 30;
 
+// The only version that is written and read.
 const VERSION: u64 = 1;
 
-// The place of a field in a record: its first byte, and its number of bytes.
+// The place of a field in a record: its first byte, and its number of bytes. The constants below are the nine fields in order.
 struct Field {
     at: usize,
     size: usize,
@@ -42,6 +43,8 @@ const RATE_FIELD: Field = Field { at: 24, size: 4 };
 
 const CHECK_FIELD: Field = Field { at: 28, size: 2 };
 
+// A record's instant (day number and microseconds of the day) and its three numbers: UT1 in nanoseconds, length of day in picoseconds, rate in units of
+// 10^-20 radian per second.
 pub struct Record {
     pub day: i64,
     pub micros: u64,
@@ -50,6 +53,7 @@ pub struct Record {
     pub rate: i32,
 }
 
+// The record that bytes are, or the refusal number of reading them.
 pub enum ReadAnswer {
     IsRecord(Record),
     NoRecord(u32),

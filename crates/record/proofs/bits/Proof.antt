@@ -1,4 +1,4 @@
--- `record::bits` meets its contract. Assumes nothing.
+-- `record::bits` meets its contract: a number of 32 bits stays itself when it is widened to 64. Assumes nothing.
 use mir.Val.{SFits}
 use mir.Syntax.{w64}
 use mir.Facts.{toZ-ofZ, sfits-widen}

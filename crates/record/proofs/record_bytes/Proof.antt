@@ -1,4 +1,4 @@
--- `record::record_bytes` meets its contract. Assumes nothing.
+-- `record::record_bytes` meets its contract: the word put in the place of the two zeros makes the sum 0, as the definition's does (checked). Assumes nothing.
 use native.Mathlib.Omega.{arith}
 use mir.Facts.{toZ-ofZ}
 use Rattle.record.proofs.Whole.{checked}
