@@ -1,11 +1,11 @@
 -- Bytes at the front of a buffer: what stands there, what is behind, and one piece behind another. n is the number of the bytes.
 -- Assumes nothing.
-use Prim.Native.Nat.{ℕ, _+_, _-_, _≤_}
-use mathlib.Core.Path.{_≡_, refl, ap, _∙_, sym}
+use Prim.Native.Nat.{ℕ, _≤_}
+use mathlib.Core.Path.{_≡_, refl, ap, sym}
 use mathlib.Core.List.{List, [], _++_, append-assoc}
 use native.Mathlib.Omega.{arith}
-use lib.ListN.{length, getD, take, drop, length-append, length-drop}
-use lib.Seq.{take-length, take-at, drop-at, drop-drop, getD-append-add, getD-drop}
+use lib.ListN.{length, take, drop, length-append, length-drop}
+use lib.Seq.{take-length, take-at, drop-at, drop-drop}
 use Rattle.bigendian.specs.Buffers.{atFront}
 
 -- with the number of the bytes in place of their length
