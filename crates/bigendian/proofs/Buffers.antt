@@ -1,11 +1,11 @@
 -- Bytes at the front of a buffer: what stands there, what is behind, and one piece behind another. n is the number of the bytes.
 -- Assumes nothing.
-use Prim.Native.Nat.{ℕ, _+_, _-_, _≤_}
-use mathlib.Core.Path.{_≡_, refl, ap, _∙_, sym}
+use Prim.Native.Nat.{ℕ, _≤_}
+use mathlib.Core.Path.{_≡_, refl, ap, sym}
 use mathlib.Core.List.{List, [], _++_, append-assoc}
 use native.Mathlib.Omega.{arith}
-use lib.ListN.{length, getD, take, drop, length-append, length-drop}
-use lib.Seq.{take-length, take-at, drop-at, drop-drop, getD-append-add, getD-drop}
+use lib.ListN.{length, take, drop, length-append, length-drop}
+use lib.Seq.{take-length, take-at, drop-at, drop-drop}
 use Rattle.bigendian.specs.Buffers.{atFront}
 
 -- with the number of the bytes in place of their length
@@ -34,12 +34,6 @@ front-take b old n e = take-at b _ n e
 -- what is behind is as it was
 pub front-behind : (b old : List ℕ) (n : ℕ) → length b ≡ n → drop n (atFront b old) ≡ drop n old
 front-behind b old n e = rw (front-is b old n e) (drop-at b (drop n old) n e)
-
-pub front-byte : (b old : List ℕ) (i : ℕ) → length b ≤ i → getD (atFront b old) i 0 ≡ getD old i 0
-unfolding atFront
-front-byte b old i h =
-    let e : i ≡ length b + (i - length b) = omega arith in
-    rw e (getD-append-add b (drop (length b) old) (i - length b) 0 ∙ getD-drop (length b) old (i - length b) 0)
 
 -- one more piece, behind the first
 pub front-more : (b c old : List ℕ) (n : ℕ) → length b ≡ n → atFront (b ++ c) old ≡ b ++ atFront c (drop n old)

@@ -1,4 +1,5 @@
--- Bytes and numbers are inverse, at every width; what of a list a number depends on. Assumes nothing.
+-- Bytes and numbers are inverse at every width, by induction on the number of bytes: the last byte is the remainder by 256, those before it are the
+-- quotient. A number and a sum of words depend on their own bytes only. Assumes nothing.
 use Prim.Native.Nat.{ℕ, zero, suc, _+_, _*_, _/_, _%_, _^_, _<_, _≤_}
 use mathlib.Core.Path.{_≡_, refl, ap, ap₂, _∙_, sym}
 use mathlib.Core.List.{List, [], _∷_, _++_, append-assoc}
@@ -9,7 +10,7 @@ use lib.ListN.{length, getD, take, drop, length-append, length-drop}
 use lib.Seq.{getD-take, getD-append-add, getD-at, take-suc, getD-drop}
 use Rattle.bigendian.specs.Numbers.{Bytes, bytesOf, numberAt, wordSum}
 
-pub length-bytes : (k n : ℕ) → length (bytesOf k n) ≡ k
+length-bytes : (k n : ℕ) → length (bytesOf k n) ≡ k
 length-bytes zero n = refl
 length-bytes (suc k) n = length-append (bytesOf k (n / 256)) (n % 256 ∷ []) ∙ (ap (λ (i : ℕ). i + 1) (length-bytes k (n / 256)) ∙ omega arith)
 

@@ -1,4 +1,5 @@
--- Bytes put into a list, the last one first. Assumes nothing.
+-- Bytes put into a list, the last one first: the bytes of `rest` that are still to come, and what stands behind them, are at each step what is to stand
+-- there in the end. Assumes nothing.
 use Prim.Native.Nat.{ℕ, suc, _+_, _/_, _%_, _<_, _≤_}
 use mathlib.Core.Path.{_≡_, ap, _∙_, sym}
 use mathlib.Core.List.{List, [], _∷_, _++_, append-assoc}

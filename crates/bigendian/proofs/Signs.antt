@@ -1,12 +1,12 @@
 -- Two's complement: the laws over the number k of bytes, and what the code for 32 bits computes, which is the case of four bytes. A number
 -- fits k bytes when its magnitude (n of pos n and of negsuc n) is below half of 256^k. Assumes nothing.
-use Prim.Native.Nat.{ℕ, suc, _+_, _-_, _*_, _/_, _^_, _<_, _≤_}
+use Prim.Native.Nat.{ℕ, suc, _+_, _-_, _/_, _^_, _<_, _≤_}
 use mathlib.Core.Path.{_≡_, refl, ap, _∙_}
 use mathlib.Core.Bool.{Bool, true, false, cond, true≢false}
 use mathlib.Core.List.{List, _++_}
 use native.Mathlib.Omega.{arith}
-use native.Mathlib.Nat.{mod-eq-of-lt, pow-suc}
-use borrow.Author.Tests.{lt-ltb, le-ltb, ltb-true, ltb-false}
+use native.Mathlib.Nat.{mod-eq-of-lt}
+use borrow.Author.Tests.{lt-ltb, le-ltb, ltb-true}
 use lib.Dec.{ltb}
 use lib.IntN.{ℤ, pos, negsuc, _+ℤ_, _-ℤ_}
 use lib.ListN.{length, take, drop}
@@ -27,29 +27,18 @@ pub twos-below : (k : ℕ) (z : ℤ) → FitsBytes k z → twosComplement k z < 
 twos-below k (pos n) h = omega arith
 twos-below k (negsuc n) h = omega arith
 
-pub twos-signed : (k n : ℕ) → n < 256 ^ k → twosComplement k (signedOf k n) ≡ n
+twos-signed : (k n : ℕ) → n < 256 ^ k → twosComplement k (signedOf k n) ≡ n
 twos-signed k n h = by (ltb n (256 ^ k / 2)) refl
   where
     by : (t : Bool) → ltb n (256 ^ k / 2) ≡ t → twosComplement k (cond t (pos n) (negsuc (256 ^ k - 1 - n))) ≡ n
     by true e = refl
     by false e = omega arith
 
-pub signed-twos : (k : ℕ) (z : ℤ) → FitsBytes k z → signedOf k (twosComplement k z) ≡ z
+signed-twos : (k : ℕ) (z : ℤ) → FitsBytes k z → signedOf k (twosComplement k z) ≡ z
 signed-twos k (pos n) h = simp (lt-ltb n (256 ^ k / 2) h)
 signed-twos k (negsuc n) h =
     let e : 256 ^ k - 1 - (256 ^ k - suc n) ≡ n = omega arith in
     simp (le-ltb (256 ^ k - suc n) (256 ^ k / 2) (omega arith)) (ap negsuc e)
-
--- one byte at least, so that half of 256^k is a whole number
-pub signed-fits : (k n : ℕ) → n < 256 ^ suc k → FitsBytes (suc k) (signedOf (suc k) n)
-signed-fits k n h = by (ltb n (256 ^ suc k / 2)) refl
-  where
-    half : 256 ^ suc k ≡ 2 * (256 ^ suc k / 2)
-    half = rw (pow-suc 256 k) (omega arith)
-
-    by : (t : Bool) → ltb n (256 ^ suc k / 2) ≡ t → FitsBytes (suc k) (cond t (pos n) (negsuc (256 ^ suc k - 1 - n)))
-    by true e = ltb-true n (256 ^ suc k / 2) e
-    by false e = omega (arith, half, ltb-false n (256 ^ suc k / 2) e)
 
 -- the bytes of a number that fits them read back as it
 pub read-signed : (p : List ℕ) (k : ℕ) (z : ℤ) (t : List ℕ) → FitsBytes k z → signedOf k (numberAt (p ++ (bytesOf k (twosComplement k z) ++ t)) (length p) k) ≡ z

@@ -1,4 +1,4 @@
--- Two lists that differ in one word at most. Assumes nothing.
+-- Two lists that agree but for word j: their sums differ by that word, which is below 2^16, so equal wrapped sums make it equal. Assumes nothing.
 use Prim.Native.Nat.{ℕ, zero, suc, _+_, _*_, _%_, _<_, _≤_}
 use mathlib.Core.Path.{_≡_, refl, ap₂}
 use mathlib.Core.List.{List}

@@ -19,8 +19,10 @@ fn wide(x: u8) -> u64
 
 // The number of the `size` bytes of s at the place `at`.
 pub fn number_at(s: &[u8], at: usize, size: usize) -> u64
-    requires { ⌜ (at + size ≤ length (now s)) × (size ≤ 8) ⌝ }
-    ensures { λ r. ⌜ (r ≡ numberAt (now (s .entry)) at size) × (r < 256 ^ size) ⌝ }
+    requires within { ⌜ at + size ≤ length (now s) ⌝ }
+    requires few { ⌜ size ≤ 8 ⌝ }
+    ensures number { λ r. ⌜ r ≡ numberAt (now (s .entry)) at size ⌝ }
+    ensures below { λ r. ⌜ r < 256 ^ size ⌝ }
 {
     let mut value: u64 = 0;
     let mut k: usize = 0;
@@ -60,9 +62,10 @@ pub fn word_sum(s: &[u8], count: usize) -> u16
 }
 
 // A number that 32 bits hold, in two's complement.
-pub fn unsigned(x: i64) -> u64
+pub fn twos_complement(x: i64) -> u64
     requires { ⌜ SFits w32 x ⌝ }
-    ensures { λ r. ⌜ (r ≡ twosComplement 4 x) × (r < 256 ^ 4) ⌝ }
+    ensures number { λ r. ⌜ r ≡ twosComplement 4 x ⌝ }
+    ensures below { λ r. ⌜ r < 256 ^ 4 ⌝ }
 {
     if x < 0 {
         return (x + 0x1_0000_0000) as u64;
@@ -71,7 +74,7 @@ pub fn unsigned(x: i64) -> u64
 }
 
 // The number whose two's complement in 32 bits is n.
-pub fn signed(n: u64) -> i32
+pub fn signed_of(n: u64) -> i32
     requires { ⌜ n < 256 ^ 4 ⌝ }
     ensures { λ r. ⌜ r ≡ signedOf 4 n ⌝ }
 {

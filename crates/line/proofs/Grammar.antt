@@ -14,7 +14,7 @@ use borrow.Author.Tests.{le-ltb, eq-eqb, ltb-false, eqb-true}
 use Rattle.line.specs.declared.Line.{Line}
 use Rattle.line.specs.declared.LineAnswer.{LineAnswer}
 use Rattle.line.specs.declared.LineAnswer.the-variants.{Parsed, BadLine}
-use Rattle.line.specs.Lines.{isDigit, digits, decimal, Start, Number, NoNumber, endedBy, readNumber, next, space, newline, lineOf}
+use Rattle.line.specs.Lines.{isDigit, digits, decimal, Start, Number, NoNumber, endedBy, readNumber, andThen, space, newline, lineOf}
 use Rattle.line.specs.Grammar.{Writes, IsLine}
 use Rattle.line.proofs.Scanning.{impossible, digits-more, digits-none}
 
@@ -97,7 +97,7 @@ record Went (a : Start) (f : ℕ → List ℕ → LineAnswer) (l : Line) : Type 
   found : a ≡ Number number left
   then : f number left ≡ Parsed l
 
-went : (a : Start) (f : ℕ → List ℕ → LineAnswer) (l : Line) → next a f ≡ Parsed l → Went a f l
+went : (a : Start) (f : ℕ → List ℕ → LineAnswer) (l : Line) → andThen a f ≡ Parsed l → Went a f l
 went (Number v r) f l e = record { number = v; left = r; found = refl; then = e }
 went NoNumber f l e = impossible (cc)
 

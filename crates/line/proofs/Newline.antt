@@ -8,7 +8,7 @@ use lib.Dec.{eqb, ltb}
 use lib.ListN.{length, drop}
 use lib.Seq.{drop-append-le}
 use Rattle.line.specs.declared.LineAnswer.{LineAnswer}
-use Rattle.line.specs.Lines.{isDigit, digits, decimal, Start, Number, NoNumber, endedBy, readNumber, next, space, newline, lineOf}
+use Rattle.line.specs.Lines.{isDigit, digits, decimal, Start, Number, NoNumber, endedBy, readNumber, andThen, space, newline, lineOf}
 use Rattle.line.proofs.Scanning.{digits-more, digits-none}
 
 -- a list's digits, with a newline after the list
@@ -31,20 +31,20 @@ number-newline end s t =
     let d = digits-newline s t in
     rw (d .0, drop-append-le (length (digits s)) s (newline ∷ t) (d .1))
 
-pick : (v : ℕ) (x y : List ℕ) (f g : ℕ → List ℕ → LineAnswer) → f v x ≡ g v y → (a : Bool) → next (cond a (Number v x) NoNumber) f ≡ next (cond a (Number v y) NoNumber) g
+pick : (v : ℕ) (x y : List ℕ) (f g : ℕ → List ℕ → LineAnswer) → f v x ≡ g v y → (a : Bool) → andThen (cond a (Number v x) NoNumber) f ≡ andThen (cond a (Number v y) NoNumber) g
 pick v x y f g h true = h
 pick v x y f g h false = refl
 
 module _ (t u : List ℕ) where
   -- two ways on that agree, whether the newline ends the number or comes later
-  step : (end : ℕ) (s : List ℕ) (f g : ℕ → List ℕ → LineAnswer) → ((v : ℕ) → next (endedBy end v (newline ∷ t)) f ≡ next (endedBy end v (newline ∷ u)) g)
-      → ((v : ℕ) (r : List ℕ) → f v (r ++ newline ∷ t) ≡ g v (r ++ newline ∷ u)) → next (readNumber end (s ++ newline ∷ t)) f ≡ next (readNumber end (s ++ newline ∷ u)) g
+  step : (end : ℕ) (s : List ℕ) (f g : ℕ → List ℕ → LineAnswer) → ((v : ℕ) → andThen (endedBy end v (newline ∷ t)) f ≡ andThen (endedBy end v (newline ∷ u)) g)
+      → ((v : ℕ) (r : List ℕ) → f v (r ++ newline ∷ t) ≡ g v (r ++ newline ∷ u)) → andThen (readNumber end (s ++ newline ∷ t)) f ≡ andThen (readNumber end (s ++ newline ∷ u)) g
   unfolding begin
   step end s f g k h =
       rw (number-newline end s t, number-newline end s u)
       (by (ltb (length (digits s)) 1) (ltb 10 (length (digits s))) (decimal (digits s)) (drop (length (digits s)) s))
     where
-      by : (a b : Bool) (v : ℕ) (s : List ℕ) → next (cond a NoNumber (cond b NoNumber (endedBy end v (s ++ newline ∷ t)))) f ≡ next (cond a NoNumber (cond b NoNumber (endedBy end v (s ++ newline ∷ u)))) g
+      by : (a b : Bool) (v : ℕ) (s : List ℕ) → andThen (cond a NoNumber (cond b NoNumber (endedBy end v (s ++ newline ∷ t)))) f ≡ andThen (cond a NoNumber (cond b NoNumber (endedBy end v (s ++ newline ∷ u)))) g
       by true b v s = refl
       by false true v s = refl
       by false false v [] = k v

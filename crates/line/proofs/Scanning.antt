@@ -1,5 +1,5 @@
--- A number, byte by byte: what the definition reads from a byte on, with the count and the value of the digits before it, for each kind of byte that
--- can come next. Assumes nothing.
+-- A number, byte by byte: numberFrom is what the definition reads from a byte on, with the count and the value of the digits before it. A digit moves it
+-- one byte on, and every other byte, an eleventh digit and the end of the bytes decide it. Assumes nothing.
 use Prim.Native.Nat.{ℕ, suc, _+_, _-_, _*_, _^_, _<_, _≤_}
 use mathlib.Core.Path.{_≡_, refl}
 use mathlib.Core.Bool.{Bool, true, false, cond, _&&_}

@@ -43,23 +43,24 @@ readNumber end s =
     (endedBy end (decimal (digits s)) (drop (length (digits s)) s)))
 
 -- what f makes of a number and the bytes after it; with no number, a bad line
-abbrev pub next : Start → (ℕ → List ℕ → LineAnswer) → LineAnswer
-next (Number v s) f = f v s
-next NoNumber f = BadLine
+abbrev pub andThen : Start → (ℕ → List ℕ → LineAnswer) → LineAnswer
+andThen (Number v s) f = f v s
+andThen NoNumber f = BadLine
 
--- the bytes that end a number
+-- the byte that ends each of the first four numbers
 abbrev pub space : ℕ
 space = 32
 
+-- the byte that ends the last number
 abbrev pub newline : ℕ
 newline = 10
 
 -- the line at the front of s: five numbers, a space after each of the first four and a newline after the last
 unfoldable pub lineOf : List ℕ → LineAnswer
 lineOf s =
-    next (readNumber space s) (λ year s₁.
-    next (readNumber space s₁) (λ month s₂.
-    next (readNumber space s₂) (λ day s₃.
-    next (readNumber space s₃) (λ count s₄.
-    next (readNumber newline s₄) (λ step s₅.
+    andThen (readNumber space s) (λ year s₁.
+    andThen (readNumber space s₁) (λ month s₂.
+    andThen (readNumber space s₂) (λ day s₃.
+    andThen (readNumber space s₃) (λ count s₄.
+    andThen (readNumber newline s₄) (λ step s₅.
     Parsed (record { year = year; month = month; day = day; count = count; step = step }))))))

@@ -26,15 +26,11 @@ use Rattle.tide.specs.declared.Doodson.{Doodson}
 use Rattle.tide.specs.declared.TideAnswer.the-variants as tideCase
 use Rattle.bigendian.specs.Numbers.{Bytes}
 use Rattle.record.specs.Format.{recordLength}
-use Rattle.record.specs.Records.{writeRefusal, written, readOf}
+use Rattle.record.specs.Records.{recordWith, writeRefusal, written, readOf}
 use Rattle.record.specs.declared.Record.{Record}
 use Rattle.record.specs.declared.ReadAnswer.the-variants.{IsRecord}
 use Rattle.instants.specs.Moments.{sinceJ2000}
 use Rattle.run.specs.Run.{runRefusal, recordAt, runWritten}
-
--- a record's five fields
-abbrev pub fields : (d : ℤ) (m : ℕ) (ut1 lod rate : ℤ) → Record
-fields d m ut1 lod rate = record { day = d; micros = m; ut1 = ut1; lod = lod; rate = rate }
 
 pub record Exactness : Type 0 where
   -- (a) the date of a date's day number is that date, and the day number of a day number's date is that day number
@@ -58,7 +54,7 @@ pub record Exactness : Type 0 where
       → tideOf d m (doodson (pos 0) (pos 0) (pos 0) (pos 0) (pos 0) (pos 0)) ≡ tideCase.Tide (record { frequency = zero64; phase = zero64 })
   -- (g) a record written at an accepted instant, with any three numbers of 32 bits, into thirty bytes or more reads back as it was
   pub record-reads-back : (d : ℤ) (m : ℕ) (ut1 lod rate : ℤ) (old : List ℕ) → IsAccepted d m → recordLength ≤ length old → SFits w32 ut1 → SFits w32 lod → SFits w32 rate
-      → readOf (written d m ut1 lod rate old) ≡ IsRecord (fields d m ut1 lod rate)
+      → readOf (written d m ut1 lod rate old) ≡ IsRecord (recordWith d m ut1 lod rate)
   -- thirty bytes that read as a record, written again, are the same thirty bytes, and what stood behind them stays
   pub record-written-again : (s : List ℕ) (r : Record) (old : List ℕ) → Bytes s → readOf s ≡ IsRecord r → recordLength ≤ length old
       → (writeRefusal (r .day) (r .micros) (length old) ≡ 0) × (written (r .day) (r .micros) (r .ut1) (r .lod) (r .rate) old ≡ take recordLength s ++ drop recordLength old)

@@ -1,4 +1,5 @@
--- A record with one byte changed. Assumes nothing.
+-- A record with one byte changed does not read: were both to read, both sums of words would wrap to 0; the lists differ in the byte's word only, so that
+-- word is the same, and with it the byte. Assumes nothing.
 use Prim.Native.Nat.{ℕ, _+_, _*_, _/_, _%_, _<_}
 use mathlib.Core.Path.{_≡_, ap₂, _∙_, sym}
 use mathlib.Core.List.{List}

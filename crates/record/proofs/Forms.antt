@@ -1,4 +1,5 @@
--- What the form of bytes tells, and what reading them tells. Assumes nothing.
+-- Bytes are of the right form exactly when none of the cases of the form applies; then the cases of reading that are left are those of the clock words,
+-- so reading refuses or answers as joining the words does. Assumes nothing.
 use Prim.Native.Nat.{ℕ, _%_, _≤_}
 use mathlib.Core.Path.{_≡_, ap, _∙_}
 use mathlib.Core.List.{List}
@@ -16,7 +17,8 @@ use Rattle.clock.specs.Words.{markUnit, joinCases, joinOf}
 use Rattle.record.specs.declared.Record.{Record}
 use Rattle.record.specs.declared.ReadAnswer.the-variants.{IsRecord, NoRecord}
 use Rattle.record.specs.Format.{recordLength, version, lengthField, versionField, zeroField, dayField, timeField, fieldAt}
-use Rattle.record.specs.Records.{formCases, formRefusal, readCases, recordOf, readOf}
+use Rattle.record.specs.Records.{recordWith, formCases, readCases, recordOf, readOf}
+use Rattle.record.specs.Inner.{formRefusal}
 
 -- bytes of the right form
 pub record Formed (s : List ℕ) : Type 0 where
@@ -92,5 +94,5 @@ module _ (s : List ℕ) (e : formRefusal s ≡ 0) where
 
 -- records with equal numbers
 pub alike : (d : ℤ) (m : ℕ) {x x' y y' u u' : ℤ} → x ≡ x' → y ≡ y' → u ≡ u'
-    → IsRecord (record { day = d; micros = m; ut1 = x; lod = y; rate = u }) ≡ IsRecord (record { day = d; micros = m; ut1 = x'; lod = y'; rate = u' })
+    → IsRecord (recordWith d m x y u) ≡ IsRecord (recordWith d m x' y' u')
 alike d m p q r = simp (p, q, r)

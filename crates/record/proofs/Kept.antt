@@ -1,4 +1,5 @@
--- What writing leaves as it was, and what reading looks at. Assumes nothing.
+-- Writing puts thirty bytes at the front of the buffer or nothing, so what is behind stays. Reading depends on fields and a sum of the first thirty bytes,
+-- so it reads them alone in the same way. Assumes nothing.
 use Prim.Native.Nat.{ℕ, _+_, _≤_}
 use mathlib.Core.Path.{_≡_, refl, ap}
 use mathlib.Core.List.{List}

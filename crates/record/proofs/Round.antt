@@ -22,7 +22,7 @@ use Rattle.record.specs.declared.ReadAnswer.the-variants.{IsRecord}
 use Rattle.record.specs.declared.Field.{Field}
 use Rattle.record.specs.Format.{recordLength, dayField, timeField, ut1Field, lodField, rateField, checkField, fieldAt, signedAt, inField, fieldBytes, negated, recordBytes}
 use Rattle.record.specs.Inner.{withField}
-use Rattle.record.specs.Records.{written, readOf}
+use Rattle.record.specs.Records.{recordWith, written, readOf}
 use Rattle.record.proofs.Written.{written-is, record-length}
 use Rattle.instants.specs.Limits.{indexOffset}
 use Rattle.record.proofs.Forms.{Formed, form-right, read-joined, alike}
@@ -85,7 +85,7 @@ mark-small (negsuc n) = omega arith
 
 -- The bytes of a record of an accepted instant read as that record, whatever follows them.
 pub read-back : (d : ℤ) (m : ℕ) (ut1 lod rate : ℤ) (rest : List ℕ) → IsAccepted d m → SFits w32 ut1 → SFits w32 lod → SFits w32 rate
-    → readOf (recordBytes (words d (timeWord d m)) ut1 lod rate ++ rest) ≡ IsRecord (record { day = d; micros = m; ut1 = ut1; lod = lod; rate = rate })
+    → readOf (recordBytes (words d (timeWord d m)) ut1 lod rate ++ rest) ≡ IsRecord (recordWith d m ut1 lod rate)
 unfolding recordBytes
 read-back d m ut1 lod rate rest a f g h =
     let t : AcceptedAt d m (dayIndex d) = accepted-at d m (dayIndex d) a in
@@ -99,5 +99,5 @@ read-back d m ut1 lod rate rest a f g h =
 
 -- PROMISE. A record written into thirty bytes or more reads back as the instant and the three numbers, whatever stood there.
 pub read-written : (d : ℤ) (m : ℕ) (ut1 lod rate : ℤ) (old : List ℕ) → IsAccepted d m → recordLength ≤ length old → SFits w32 ut1 → SFits w32 lod → SFits w32 rate
-    → readOf (written d m ut1 lod rate old) ≡ IsRecord (record { day = d; micros = m; ut1 = ut1; lod = lod; rate = rate })
+    → readOf (written d m ut1 lod rate old) ≡ IsRecord (recordWith d m ut1 lod rate)
 read-written d m ut1 lod rate old a l f g h = rw (written-is d m ut1 lod rate old a l, front-is _ old recordLength (record-length (words d (timeWord d m)) ut1 lod rate)) (read-back d m ut1 lod rate (drop recordLength old) a f g h)

@@ -6,55 +6,69 @@ use Rattle.bigendian.specs.Numbers.{bytesOf, numberAt, wordSum, twosComplement,
 use Rattle.clock.specs.declared.ClockWords.{ClockWords}
 use Rattle.record.specs.declared.Field.{Field}
 
+-- the bytes of a record
 abbrev pub recordLength : ℕ
 recordLength = 30
 
+-- the version that is written and read
 abbrev pub version : ℕ
 version = 1
 
--- ---- the fields: each one's first byte and its number of bytes
+-- ---- the fields
 
+-- a field: its first byte and its number of bytes
 abbrev pub field : ℕ → ℕ → Field
 field at size = record { at = at; size = size }
 
+-- the record's length
 abbrev pub lengthField : Field
 lengthField = field 0 2
 
+-- the version
 abbrev pub versionField : Field
 versionField = field 2 1
 
+-- a byte that is 0
 abbrev pub zeroField : Field
 zeroField = field 3 1
 
+-- the day word
 abbrev pub dayField : Field
 dayField = field 4 4
 
+-- the time word
 abbrev pub timeField : Field
 timeField = field 8 8
 
+-- UT1 in nanoseconds, signed
 abbrev pub ut1Field : Field
 ut1Field = field 16 4
 
+-- length of day in picoseconds, signed
 abbrev pub lodField : Field
 lodField = field 20 4
 
+-- rate in units of 10^-20 radian per second, signed
 abbrev pub rateField : Field
 rateField = field 24 4
 
+-- the check word
 abbrev pub checkField : Field
 checkField = field 28 2
 
--- the number in a field of s, and the signed number in it
+-- the number in a field of s
 abbrev pub fieldAt : List ℕ → Field → ℕ
 fieldAt s f = numberAt s (f .at) (f .size)
 
+-- the signed number in a field of s
 abbrev pub signedAt : List ℕ → Field → ℤ
 signedAt s f = signedOf (f .size) (fieldAt s f)
 
--- a field's bytes for a number, and for a signed number
+-- a field's bytes for a number
 abbrev pub inField : Field → ℕ → List ℕ
 inField f n = bytesOf (f .size) n
 
+-- a field's bytes for a signed number
 abbrev pub signedIn : Field → ℤ → List ℕ
 signedIn f z = inField f (twosComplement (f .size) z)
 

@@ -16,12 +16,17 @@ use Rattle.record.specs.declared.ReadAnswer.{ReadAnswer}
 use Rattle.record.specs.declared.ReadAnswer.the-variants.{IsRecord, NoRecord}
 use Rattle.record.specs.Format.{recordLength, version, lengthField, versionField, zeroField, dayField, timeField, ut1Field, lodField, rateField, fieldAt, signedAt, recordBytes}
 
+-- the record of the instant d, m and three numbers
+abbrev pub recordWith : ℤ → ℕ → (ut1 lod rate : ℤ) → Record
+recordWith d m ut1 lod rate = record { day = d; micros = m; ut1 = ut1; lod = lod; rate = rate }
+
 -- ---- writing
 
 -- the refusals of a record of the instant d, m in n bytes: of the instant, and 12
 abbrev pub writeCases : ℤ → ℕ → ℕ → List Case
 writeCases d m n = instantCases d m ++ (case 12 (ltb n recordLength) ∷ [])
 
+-- the first refusal of writing, or 0
 unfoldable pub writeRefusal : ℤ → ℕ → ℕ → ℕ
 writeRefusal d m n = firstRefusal (writeCases d m n)
 
@@ -42,23 +47,13 @@ formCases s =
     ∷ case 16 (not (eqb (wordSum s 15 % 65536) 0))
     ∷ []
 
-unfoldable pub formRefusal : List ℕ → ℕ
-formRefusal s = firstRefusal (formCases s)
-
 -- the refusals of reading: of the form, and of the clock words
 abbrev pub readCases : List ℕ → List Case
 readCases s = formCases s ++ joinCases (pos (fieldAt s dayField)) (fieldAt s timeField)
 
 -- an instant with the three numbers in s
 abbrev pub recordOf : Instant → List ℕ → Record
-recordOf t s =
-    record {
-      day = t .day;
-      micros = t .micros;
-      ut1 = signedAt s ut1Field;
-      lod = signedAt s lodField;
-      rate = signedAt s rateField;
-    }
+recordOf t s = recordWith (t .day) (t .micros) (signedAt s ut1Field) (signedAt s lodField) (signedAt s rateField)
 
 -- the record that the first thirty bytes of s are, or its refusal
 unfoldable pub readOf : List ℕ → ReadAnswer
@@ -66,26 +61,32 @@ readOf s = refusedOr NoRecord (readCases s) (IsRecord (recordOf (instant (pos (f
 
 -- ---- the numbers that the exported calls give for an answer
 
+-- the day number, or 0
 abbrev pub recordDayOf : ReadAnswer → ℤ
 recordDayOf (IsRecord r) = r .day
 recordDayOf (NoRecord n) = pos 0
 
+-- the microseconds, or 0
 abbrev pub recordMicrosOf : ReadAnswer → ℕ
 recordMicrosOf (IsRecord r) = r .micros
 recordMicrosOf (NoRecord n) = 0
 
+-- UT1, or 0
 abbrev pub recordUt1Of : ReadAnswer → ℤ
 recordUt1Of (IsRecord r) = r .ut1
 recordUt1Of (NoRecord n) = pos 0
 
+-- length of day, or 0
 abbrev pub recordLodOf : ReadAnswer → ℤ
 recordLodOf (IsRecord r) = r .lod
 recordLodOf (NoRecord n) = pos 0
 
+-- the rate, or 0
 abbrev pub recordRateOf : ReadAnswer → ℤ
 recordRateOf (IsRecord r) = r .rate
 recordRateOf (NoRecord n) = pos 0
 
+-- the refusal number, or 0
 abbrev pub readRefusalOf : ReadAnswer → ℕ
 readRefusalOf (IsRecord r) = 0
 readRefusalOf (NoRecord n) = n

@@ -10,15 +10,16 @@ ghost use mir.Syntax.{w32};
 ghost use mir.Val.{SFits};
 ghost use Rattle.bigendian.specs.Numbers.{twosComplement};
 ghost use Rattle.record.specs.Format.{fieldAt, fieldBytes, recordBytes};
-ghost use Rattle.record.specs.Inner.{withField};
-ghost use Rattle.record.specs.Records.{writeRefusal, written, formRefusal, readOf};
+ghost use Rattle.record.specs.Inner.{withField, formRefusal};
+ghost use Rattle.record.specs.Records.{writeRefusal, written, readOf};
 
 // The bytes of a record.
 pub const LENGTH: usize = 30;
 
+// The only version that is written and read.
 const VERSION: u64 = 1;
 
-// The place of a field in a record: its first byte, and its number of bytes.
+// The place of a field in a record: its first byte, and its number of bytes. The constants below are the nine fields in order.
 struct Field {
     at: usize,
     size: usize,
@@ -42,6 +43,8 @@ const RATE_FIELD: Field = Field { at: 24, size: 4 };
 
 const CHECK_FIELD: Field = Field { at: 28, size: 2 };
 
+// A record's instant (day number and microseconds of the day) and its three numbers: UT1 in nanoseconds, length of day in picoseconds, rate in units of
+// 10^-20 radian per second.
 pub struct Record {
     pub day: i64,
     pub micros: u64,
@@ -50,21 +53,24 @@ pub struct Record {
     pub rate: i32,
 }
 
+// The record that bytes are, or the refusal number of reading them.
 pub enum ReadAnswer {
     IsRecord(Record),
     NoRecord(u32),
 }
 
 // The number in a field of s.
-fn get(s: &[u8], f: Field) -> u64
-    requires { ⌜ (f .at + f .size ≤ length (now s)) × (f .size ≤ 8) ⌝ }
-    ensures { λ r. ⌜ (r ≡ fieldAt (now (s .entry)) f) × (r < 256 ^ f .size) ⌝ }
+fn field_at(s: &[u8], f: Field) -> u64
+    requires within { ⌜ f .at + f .size ≤ length (now s) ⌝ }
+    requires few { ⌜ f .size ≤ 8 ⌝ }
+    ensures number { λ r. ⌜ r ≡ fieldAt (now (s .entry)) f ⌝ }
+    ensures below { λ r. ⌜ r < 256 ^ f .size ⌝ }
 {
     bigendian::number_at(s, f.at, f.size)
 }
 
 // Puts a number into a field of s.
-fn place(s: &mut [u8], f: Field, n: u64)
+fn put_field(s: &mut [u8], f: Field, n: u64)
     requires { ⌜ f .at + f .size ≤ length (now s) ⌝ }
     ensures { λ _. ⌜ now (s .exit) ≡ withField (now (s .entry)) f n ⌝ }
 {
@@ -75,7 +81,7 @@ fn place(s: &mut [u8], f: Field, n: u64)
 fn bits(x: i32) -> u64
     ensures { λ r. ⌜ r ≡ twosComplement 4 x ⌝ }
 {
-    bigendian::unsigned(x as i64)
+    bigendian::twos_complement(x as i64)
 }
 
 // The fields before the check word, and two zeros in its place.
@@ -84,13 +90,13 @@ fn fields(w: ClockWords, ut1: i32, lod: i32, rate: i32) -> [u8; LENGTH]
     ensures { λ r. ⌜ r ≡ fieldBytes w ut1 lod rate ++ 0 ∷ 0 ∷ [] ⌝ }
 {
     let mut s = [0u8; LENGTH];
-    place(&mut s, LENGTH_FIELD, LENGTH as u64);
-    place(&mut s, VERSION_FIELD, VERSION);
-    place(&mut s, DAY_FIELD, bigendian::unsigned(w.day));
-    place(&mut s, TIME_FIELD, w.time);
-    place(&mut s, UT1_FIELD, bits(ut1));
-    place(&mut s, LOD_FIELD, bits(lod));
-    place(&mut s, RATE_FIELD, bits(rate));
+    put_field(&mut s, LENGTH_FIELD, LENGTH as u64);
+    put_field(&mut s, VERSION_FIELD, VERSION);
+    put_field(&mut s, DAY_FIELD, bigendian::twos_complement(w.day));
+    put_field(&mut s, TIME_FIELD, w.time);
+    put_field(&mut s, UT1_FIELD, bits(ut1));
+    put_field(&mut s, LOD_FIELD, bits(lod));
+    put_field(&mut s, RATE_FIELD, bits(rate));
     s
 }
 
@@ -101,7 +107,7 @@ fn record_bytes(w: ClockWords, ut1: i32, lod: i32, rate: i32) -> [u8; LENGTH]
 {
     let mut s = fields(w, ut1, lod, rate);
     let check = std::num::wrapping_sub_u16(0, bigendian::word_sum(&s, 14));
-    place(&mut s, CHECK_FIELD, check as u64);
+    put_field(&mut s, CHECK_FIELD, check as u64);
     s
 }
 
@@ -131,13 +137,13 @@ fn form(s: &[u8]) -> u32
     if s.len() < LENGTH {
         return 12;
     }
-    if get(s, VERSION_FIELD) != VERSION {
+    if field_at(s, VERSION_FIELD) != VERSION {
         return 14;
     }
-    if get(s, LENGTH_FIELD) != LENGTH as u64 {
+    if field_at(s, LENGTH_FIELD) != LENGTH as u64 {
         return 13;
     }
-    if get(s, ZERO_FIELD) != 0 {
+    if field_at(s, ZERO_FIELD) != 0 {
         return 15;
     }
     if bigendian::word_sum(s, 15) != 0 {
@@ -154,14 +160,14 @@ pub fn read(s: &[u8]) -> ReadAnswer
     if n != 0 {
         return ReadAnswer::NoRecord(n);
     }
-    match clock::join(get(s, DAY_FIELD) as i64, get(s, TIME_FIELD)) {
+    match clock::join(field_at(s, DAY_FIELD) as i64, field_at(s, TIME_FIELD)) {
         JoinAnswer::NoJoin(n) => ReadAnswer::NoRecord(n),
         JoinAnswer::Joined(t) => ReadAnswer::IsRecord(Record {
             day: t.day,
             micros: t.micros,
-            ut1: bigendian::signed(get(s, UT1_FIELD)),
-            lod: bigendian::signed(get(s, LOD_FIELD)),
-            rate: bigendian::signed(get(s, RATE_FIELD)),
+            ut1: bigendian::signed_of(field_at(s, UT1_FIELD)),
+            lod: bigendian::signed_of(field_at(s, LOD_FIELD)),
+            rate: bigendian::signed_of(field_at(s, RATE_FIELD)),
         }),
     }
 }

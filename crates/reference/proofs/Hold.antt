@@ -5,7 +5,8 @@ use Rattle.calendar.specs.Dates.{leapYear, monthLengths, monthLength, sum, year
 use Rattle.clock.specs.Words.{splitOf, joinOf}
 use Rattle.bigendian.specs.Numbers.{wordSum}
 use Rattle.record.specs.Format.{recordBytes}
-use Rattle.record.specs.Records.{formRefusal, readOf}
+use Rattle.record.specs.Records.{readOf}
+use Rattle.record.specs.Inner.{formRefusal}
 use Rattle.rows.specs.BuiltIn.{builtIn}
 use Rattle.rows.specs.Places.{started, place}
 use Rattle.nutation.specs.Exact.{span, value, uValue, uParts, uncertaintyAt}

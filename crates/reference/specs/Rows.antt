@@ -9,7 +9,7 @@ use Rattle.clock.specs.Words.{words, timeWord, splitOf, joinOf}
 use Rattle.clock.specs.declared.SplitAnswer.the-variants.{Split}
 use Rattle.clock.specs.declared.JoinAnswer.the-variants.{NoJoin}
 use Rattle.record.specs.Format.{recordBytes}
-use Rattle.record.specs.Records.{readOf}
+use Rattle.record.specs.Records.{recordWith, readOf}
 use Rattle.record.specs.declared.ReadAnswer.the-variants.{IsRecord}
 use Rattle.nutation.specs.Ours.{nutationOf, uncertaintyOf}
 
@@ -30,7 +30,7 @@ Says (time-word-is d m t) = splitOf (pos d) m ≡ Split (words (pos d) t)
 Says (words-refused d t r) = joinOf (pos d) t ≡ NoJoin r
 Says (record-is d m ut1 lod rate bytes) =
     (recordBytes (words (pos d) (timeWord (pos d) m)) ut1 lod rate ≡ bytes)
-    × (readOf bytes ≡ IsRecord (record { day = pos d; micros = m; ut1 = ut1; lod = lod; rate = rate }))
+    × (readOf bytes ≡ IsRecord (recordWith (pos d) m ut1 lod rate))
 Says (uncertainty-is d m u) = uncertaintyOf (nutationOf (pos d) m) ≡ u
 
 -- every row of a list

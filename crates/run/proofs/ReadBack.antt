@@ -1,4 +1,5 @@
--- Each record of a run stands at its place and reads back. Assumes nothing.
+-- Each record of a run stands at its place and reads back: the run's bytes are those of the k records before, thirty each, then record k, then the rest,
+-- and record k is one that was written at an accepted instant. Assumes nothing.
 use Prim.Native.Nat.{ℕ, zero, suc, _+_, _*_, _/_, _%_, _<_, _≤_}
 use mathlib.Core.Path.{_≡_, refl, ap, _∙_}
 use mathlib.Core.List.{List, [], _++_, append-assoc, append-nil}

@@ -18,10 +18,11 @@ use Rattle.zonal.specs.Ours.{zonalOf, ut1Of, lodOf, rateOf}
 abbrev pub mostRecords : ℕ
 mostRecords = 96
 
--- a count outside 1..96, and a step outside 1 to a day
+-- a count outside 1..96
 abbrev pub badCount : ℕ → Bool
 badCount count = ltb count 1 || ltb mostRecords count
 
+-- a step outside 1 microsecond to a day
 abbrev pub badStep : ℕ → Bool
 badStep step = ltb step 1 || ltb dayMicros step
 
@@ -36,6 +37,7 @@ runCases d m count step n =
     ∷ case 12 (ltb n (recordLength * count))
     ∷ []
 
+-- the first refusal of a run, or 0
 unfoldable pub runRefusal : ℤ → ℕ → (count step n : ℕ) → ℕ
 runRefusal d m count step n = firstRefusal (runCases d m count step n)
 

@@ -14,8 +14,8 @@ ghost use Rattle.run.specs.Inner.{writtenAt};
 // The most records of a run.
 const MOST_RECORDS: u64 = 96;
 
-// The refusal of an instant, or 0.
-fn instant_refusal(a: Acceptance) -> u32
+// The refusal that an acceptance is, or 0.
+fn acceptance_refusal(a: Acceptance) -> u32
     ensures { λ r. ⌜ r ≡ acceptanceRefusal a ⌝ }
 {
     match a {
@@ -34,12 +34,12 @@ fn refusal(day: i64, micros: u64, count: u64, step: u64, size: usize) -> u32
     if (step < 1) | (DAY_MICROS < step) {
         return 18;
     }
-    let start = instant_refusal(instants::accept(day, micros));
+    let start = acceptance_refusal(instants::accept(day, micros));
     if start != 0 {
         return start;
     }
     let last = instants::later(day, micros, (count - 1) * step);
-    let end = instant_refusal(instants::accept(last.day, last.micros));
+    let end = acceptance_refusal(instants::accept(last.day, last.micros));
     if end != 0 {
         return end;
     }

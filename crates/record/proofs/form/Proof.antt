@@ -8,7 +8,7 @@ use lib.Dec.{eqb, ltb}
 use lib.ListN.{length}
 use denote.Ref.{now}
 use Rattle.record.specs.Format.{recordLength, version, lengthField, versionField, zeroField, fieldAt}
-use Rattle.record.specs.Records.{formRefusal}
+use Rattle.record.specs.Inner.{formRefusal}
 use borrow.Author.Needs.{needs}
 use Rattle.record.proofs.form.Statement.{statement}
 use Rattle.record.proofs.form.Tie as tie
@@ -31,44 +31,44 @@ long : (c : tie.Else1) → ltb (length (bytes c)) recordLength ≡ false
 long c = le-ltb _ _ (c .if1 .left)
 
 is-version : (c : tie.Else2) → eqb (fieldAt (bytes (else1 c)) versionField) version ≡ true
-is-version c = eq-eqb _ _ (sym (c .before .get .ensures .0) ∙ c .if2 .left)
+is-version c = eq-eqb _ _ (sym (c .before .field-at .ensures .0) ∙ c .if2 .left)
 
 is-length : (c : tie.Else3) → eqb (fieldAt (bytes (else1 (else2 c))) lengthField) recordLength ≡ true
-is-length c = eq-eqb _ _ (sym (c .before .get2 .ensures .0) ∙ c .if3 .left)
+is-length c = eq-eqb _ _ (sym (c .before .field-at2 .ensures .0) ∙ c .if3 .left)
 
 is-zero : (c : tie.Else4) → eqb (fieldAt (bytes (else1 (else2 (else3 c)))) zeroField) 0 ≡ true
-is-zero c = eq-eqb _ _ (sym (c .before .get3 .ensures .0) ∙ c .if4 .left)
+is-zero c = eq-eqb _ _ (sym (c .before .field-at3 .ensures .0) ∙ c .if4 .left)
 
 returns : tie.Need-returns
 unfolding formRefusal
 returns c = simp (lt-ltb _ _ (c .if1 .taken))
 
-get-requires : tie.Need-get-requires
-get-requires c κs = search needs
+field-at-requires : tie.Need-field-at-requires
+field-at-requires c κs = search needs
 
 returns-2 : tie.Need-returns-2
 unfolding formRefusal
 returns-2 c =
     let e : tie.Else1 = c .before .before in
-    simp (long e, ne-eqb _ _ (λ q. c .if2 .taken (c .before .get .ensures .0 ∙ q)))
+    simp (long e, ne-eqb _ _ (λ q. c .if2 .taken (c .before .field-at .ensures .0 ∙ q)))
 
-get-requires-2 : tie.Need-get-requires-2
-get-requires-2 c κs = search needs
+field-at-requires-2 : tie.Need-field-at-requires-2
+field-at-requires-2 c κs = search needs
 
 returns-3 : tie.Need-returns-3
 unfolding formRefusal
 returns-3 c =
     let e : tie.Else2 = c .before .before in
-    simp (long (else1 e), is-version e, ne-eqb _ _ (λ q. c .if3 .taken (c .before .get2 .ensures .0 ∙ q)))
+    simp (long (else1 e), is-version e, ne-eqb _ _ (λ q. c .if3 .taken (c .before .field-at2 .ensures .0 ∙ q)))
 
-get-requires-3 : tie.Need-get-requires-3
-get-requires-3 c κs = search needs
+field-at-requires-3 : tie.Need-field-at-requires-3
+field-at-requires-3 c κs = search needs
 
 returns-4 : tie.Need-returns-4
 unfolding formRefusal
 returns-4 c =
     let e : tie.Else3 = c .before .before in
-    simp (long (else1 (else2 e)), is-version (else2 e), is-length e, ne-eqb _ _ (λ q. c .if4 .taken (c .before .get3 .ensures .0 ∙ q)))
+    simp (long (else1 (else2 e)), is-version (else2 e), is-length e, ne-eqb _ _ (λ q. c .if4 .taken (c .before .field-at3 .ensures .0 ∙ q)))
 
 word-sum-requires : tie.Need-word-sum-requires
 word-sum-requires c κs = search needs
@@ -90,11 +90,11 @@ form-spec =
     tie.close
     (tie.spec
     returns
-    get-requires
+    field-at-requires
     returns-2
-    get-requires-2
+    field-at-requires-2
     returns-3
-    get-requires-3
+    field-at-requires-3
     returns-4
     word-sum-requires
     returns-5

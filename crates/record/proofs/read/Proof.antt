@@ -14,7 +14,8 @@ use Rattle.instants.proofs.FirstRefusal.{refused-first}
 use Rattle.clock.specs.Words.{joinOf}
 use Rattle.record.specs.declared.ReadAnswer.the-variants.{NoRecord}
 use Rattle.record.specs.Format.{recordLength, dayField, timeField, fieldAt}
-use Rattle.record.specs.Records.{formCases, formRefusal, readOf}
+use Rattle.record.specs.Records.{formCases, readOf}
+use Rattle.record.specs.Inner.{formRefusal}
 use Rattle.record.proofs.Forms.{formed, read-refused, read-joined}
 use borrow.Author.Needs.{needs}
 use Rattle.record.proofs.read.Statement.{statement}
@@ -31,10 +32,10 @@ tested c = c .before .before .before
 abbrev joining : tie.After-t → tie.After-join
 joining c = c .before .before
 
-abbrev before-ut1 : tie.After-signed → tie.After-t
+abbrev before-ut1 : tie.After-signed-of → tie.After-t
 before-ut1 c = c .before .before .before
 
-abbrev before-lod : tie.After-signed2 → tie.After-signed
+abbrev before-lod : tie.After-signed-of2 → tie.After-signed-of
 before-lod c = c .before .before
 
 -- ---- what is known there
@@ -51,8 +52,8 @@ joins : (c : tie.After-join) →
 joins c =
     let a2 = c .before in
     let a1 = a2 .before in
-    let l : a1 .get .result < 2 ^ 63 = omega (arith, a1 .get .ensures .1) in
-    c .join .ensures ∙ rw (toZ-pos w64 l) (simp (a1 .get .ensures .0, a2 .get2 .ensures .0))
+    let l : a1 .field-at .result < 2 ^ 63 = omega (arith, a1 .field-at .ensures .1) in
+    c .join .ensures ∙ rw (toZ-pos w64 l) (simp (a1 .field-at .ensures .0, a2 .field-at2 .ensures .0))
 
 form-requires : tie.Need-form-requires
 form-requires c κs = search needs
@@ -63,14 +64,14 @@ returns c =
     let e = c .before .form .ensures in
     ap NoRecord e ∙ sym (refused-first NoRecord (formCases (bytes (c .before))) _ (λ q. c .if1 .taken (e ∙ q)))
 
-get-requires : tie.Need-get-requires
-get-requires c κs = omega (arith, long c)
+field-at-requires : tie.Need-field-at-requires
+field-at-requires c κs = omega (arith, long c)
 
 cast-join : tie.Need-cast-join
 cast-join c = search needs
 
-get-requires-2 : tie.Need-get-requires-2
-get-requires-2 c κs = omega (arith, long (c .before))
+field-at-requires-2 : tie.Need-field-at-requires-2
+field-at-requires-2 c κs = omega (arith, long (c .before))
 
 join-requires : tie.Need-join-requires
 join-requires c κs = search needs
@@ -81,23 +82,23 @@ enum-known-n c = search needs
 enum-known-t : tie.Need-enum-known-t
 enum-known-t c = search needs
 
-get-requires-3 : tie.Need-get-requires-3
-get-requires-3 c κs = omega (arith, long (tested (joining (c .before))))
+field-at-requires-3 : tie.Need-field-at-requires-3
+field-at-requires-3 c κs = omega (arith, long (tested (joining (c .before))))
 
-signed-requires : tie.Need-signed-requires
-signed-requires c κs = search needs
+signed-of-requires : tie.Need-signed-of-requires
+signed-of-requires c κs = search needs
 
-get-requires-4 : tie.Need-get-requires-4
-get-requires-4 c κs = omega (arith, long (tested (joining (before-ut1 c))))
+field-at-requires-4 : tie.Need-field-at-requires-4
+field-at-requires-4 c κs = omega (arith, long (tested (joining (before-ut1 c))))
 
-signed-requires-2 : tie.Need-signed-requires-2
-signed-requires-2 c κs = search needs
+signed-of-requires-2 : tie.Need-signed-of-requires-2
+signed-of-requires-2 c κs = search needs
 
-get-requires-5 : tie.Need-get-requires-5
-get-requires-5 c κs = omega (arith, long (tested (joining (before-ut1 (before-lod c)))))
+field-at-requires-5 : tie.Need-field-at-requires-5
+field-at-requires-5 c κs = omega (arith, long (tested (joining (before-ut1 (before-lod c)))))
 
-signed-requires-3 : tie.Need-signed-requires-3
-signed-requires-3 c κs = search needs
+signed-of-requires-3 : tie.Need-signed-of-requires-3
+signed-of-requires-3 c κs = search needs
 
 returns-2 : tie.Need-returns-2
 returns-2 c =
@@ -106,17 +107,17 @@ returns-2 c =
 
 returns-3 : tie.Need-returns-3
 returns-3 c =
-    let z : tie.After-signed3 = c .before in
-    let y : tie.After-signed2 = z .before .before in
-    let x : tie.After-signed = before-lod y in
+    let z : tie.After-signed-of3 = c .before in
+    let y : tie.After-signed-of2 = z .before .before in
+    let x : tie.After-signed-of = before-lod y in
     let t : tie.After-t = before-ut1 x in
     let fd : SFits w64 (t .t .given .0 .0 .day) = search needs in
-    let fx : SFits w32 (x .signed .result) = search needs in
-    let fy : SFits w32 (y .signed2 .result) = search needs in
-    let fz : SFits w32 (z .signed3 .result) = search needs in
-    let u = x .signed .ensures ∙ ap (signedOf 4) (x .before .get3 .ensures .0) in
-    let l = y .signed2 .ensures ∙ ap (signedOf 4) (y .before .get4 .ensures .0) in
-    let r = z .signed3 .ensures ∙ ap (signedOf 4) (z .before .get5 .ensures .0) in
+    let fx : SFits w32 (x .signed-of .result) = search needs in
+    let fy : SFits w32 (y .signed-of2 .result) = search needs in
+    let fz : SFits w32 (z .signed-of3 .result) = search needs in
+    let u = x .signed-of .ensures ∙ ap (signedOf 4) (x .before .field-at3 .ensures .0) in
+    let l = y .signed-of2 .ensures ∙ ap (signedOf 4) (y .before .field-at4 .ensures .0) in
+    let r = z .signed-of3 .ensures ∙ ap (signedOf 4) (z .before .field-at5 .ensures .0) in
     rw (toZ-ofZ fd, toZ-ofZ fx, toZ-ofZ fy, toZ-ofZ fz)
     (simp (u, l, r) (sym (read-joined _ (right (tested (joining t))) _ (sym (joins (joining t)) ∙ t .t .given .1))))
 
@@ -126,17 +127,17 @@ read-spec =
     (tie.spec
     form-requires
     returns
-    get-requires
+    field-at-requires
     cast-join
-    get-requires-2
+    field-at-requires-2
     join-requires
     enum-known-n
     enum-known-t
-    get-requires-3
-    signed-requires
-    get-requires-4
-    signed-requires-2
-    get-requires-5
-    signed-requires-3
+    field-at-requires-3
+    signed-of-requires
+    field-at-requires-4
+    signed-of-requires-2
+    field-at-requires-5
+    signed-of-requires-3
     returns-2
     returns-3)

@@ -1,4 +1,4 @@
--- `record::record_bytes` meets its contract. Assumes nothing.
+-- `record::record_bytes` meets its contract: the word put in the place of the two zeros makes the sum 0, as the definition's does (checked). Assumes nothing.
 use native.Mathlib.Omega.{arith}
 use mir.Facts.{toZ-ofZ}
 use Rattle.record.proofs.Whole.{checked}
@@ -18,14 +18,14 @@ word-sum-requires c κs = search needs
 wrapping-sub-u16-requires : tie.Need-wrapping-sub-u16-requires
 wrapping-sub-u16-requires c κs = search needs
 
-slice-aggregate-place : tie.Need-slice-aggregate-place
-slice-aggregate-place c = search needs
+slice-aggregate-put-field : tie.Need-slice-aggregate-put-field
+slice-aggregate-put-field c = search needs
 
-cast-place : tie.Need-cast-place
-cast-place c = search needs
+cast-put-field : tie.Need-cast-put-field
+cast-put-field c = search needs
 
-place-requires : tie.Need-place-requires
-place-requires c κs = search needs
+put-field-requires : tie.Need-put-field-requires
+put-field-requires c κs = search needs
 
 returns : tie.Need-returns
 returns c =
@@ -34,7 +34,7 @@ returns c =
     let s = n .before in
     let f = s .before .before in
     let a = f .before in
-    checked (a .args .w) (a .args .ut1) (a .args .lod) (a .args .rate) _ _ _ _ (simp (toZ-ofZ (a .fits .ut1), toZ-ofZ (a .fits .lod), toZ-ofZ (a .fits .rate)) at (f .fields .ensures)) (s .word-sum .ensures) (n .wrapping-sub-u16 .ensures) (omega arith) (p .place .ensures)
+    checked (a .args .w) (a .args .ut1) (a .args .lod) (a .args .rate) _ _ _ _ (simp (toZ-ofZ (a .fits .ut1), toZ-ofZ (a .fits .lod), toZ-ofZ (a .fits .rate)) at (f .fields .ensures)) (s .word-sum .ensures) (n .wrapping-sub-u16 .ensures) (omega arith) (p .put-field .ensures)
 
 pub record-bytes-spec : {M : Type 1} → statement M
 record-bytes-spec =
@@ -44,7 +44,7 @@ record-bytes-spec =
     slice-aggregate-word-sum
     word-sum-requires
     wrapping-sub-u16-requires
-    slice-aggregate-place
-    cast-place
-    place-requires
+    slice-aggregate-put-field
+    cast-put-field
+    put-field-requires
     returns)

@@ -24,15 +24,15 @@ use Rattle.run.proofs.refusal.Statement.{statement}
 use Rattle.run.proofs.refusal.Tie as tie
 
 -- after the tests of the count and the step
-module _ (c : tie.After-instant-refusal) where
+module _ (c : tie.After-acceptance-refusal) where
   abbrev stepped : tie.Else2
   stepped = c .before .before
 
   abbrev s : tie.Start
   s = stepped .before .before
 
-  says : c .instant-refusal .result ≡ acceptanceRefusal (acceptance (s .args .day) (s .args .micros))
-  says = c .instant-refusal .ensures ∙ ap acceptanceRefusal (c .before .accept .ensures ∙ ap (λ (d : ℤ). acceptance d (s .args .micros)) (toZ-ofZ (s .fits .day)))
+  says : c .acceptance-refusal .result ≡ acceptanceRefusal (acceptance (s .args .day) (s .args .micros))
+  says = c .acceptance-refusal .ensures ∙ ap acceptanceRefusal (c .before .accept .ensures ∙ ap (λ (d : ℤ). acceptance d (s .args .micros)) (toZ-ofZ (s .fits .day)))
 
   counted : Counted (s .args .count) (s .args .step)
   counted =
@@ -55,7 +55,7 @@ module _ (c : tie.Else3) where
   accepted = none-accepted _ _ (sym (says (c .before)) ∙ c .if3 .left)
 
 -- after the last instant was looked at
-module _ (c : tie.After-instant-refusal2) where
+module _ (c : tie.After-acceptance-refusal2) where
   abbrev e : tie.Else3
   e = c .before .before .before .before
 
@@ -68,9 +68,9 @@ module _ (c : tie.After-instant-refusal2) where
   abbrev short : Bool
   short = ltb (b .args .size) (recordLength * b .args .count)
 
-  last : c .instant-refusal2 .result ≡ cond past 8 0
+  last : c .acceptance-refusal2 .result ≡ cond past 8 0
   last =
-      c .instant-refusal2 .ensures
+      c .acceptance-refusal2 .ensures
       ∙ (ap acceptanceRefusal
       (c .before .accept2 .ensures
       ∙ (ap (λ (i : Instant). acceptance (toZ w64 (ofZ w64 (i .day))) (i .micros)) (c .before .before .before .later .ensures ∙ ap (λ (z : ℤ). laterInstant z (b .args .micros) (t e)) (toZ-ofZ (b .fits .day)))
@@ -81,17 +81,17 @@ module _ (c : tie.After-instant-refusal2) where
   rest = refused-later _ _ _ _ _ (counted (e .before)) (accepted e)
 
   -- a last instant with a refusal, and one without
-  ended : (c .instant-refusal2 .result ≡ 0 → ⊥) → c .instant-refusal2 .result ≡ cond past 8 (cond short 12 0)
+  ended : (c .acceptance-refusal2 .result ≡ 0 → ⊥) → c .acceptance-refusal2 .result ≡ cond past 8 (cond short 12 0)
   ended h = by past last
     where
-      by : (p : Bool) → c .instant-refusal2 .result ≡ cond p 8 0 → c .instant-refusal2 .result ≡ cond p 8 (cond short 12 0)
+      by : (p : Bool) → c .acceptance-refusal2 .result ≡ cond p 8 0 → c .acceptance-refusal2 .result ≡ cond p 8 (cond short 12 0)
       by true q = q
       by false q = absurd (h q)
 
-  went-on : c .instant-refusal2 .result ≡ 0 → _≡_ {A = ℕ} (cond past 8 (cond short 12 0)) (cond short 12 0)
+  went-on : c .acceptance-refusal2 .result ≡ 0 → _≡_ {A = ℕ} (cond past 8 (cond short 12 0)) (cond short 12 0)
   went-on h = by past last
     where
-      by : (p : Bool) → c .instant-refusal2 .result ≡ cond p 8 0 → _≡_ {A = ℕ} (cond p 8 (cond short 12 0)) (cond short 12 0)
+      by : (p : Bool) → c .acceptance-refusal2 .result ≡ cond p 8 0 → _≡_ {A = ℕ} (cond p 8 (cond short 12 0)) (cond short 12 0)
       by true q = let v : ⊥ = omega arith in absurd v
       by false q = refl
 
@@ -106,8 +106,8 @@ returns-2 c = simp (c .before .if1 .left, c .if2 .taken)
 accept-requires : tie.Need-accept-requires
 accept-requires c κs = search needs
 
-instant-refusal-requires : tie.Need-instant-refusal-requires
-instant-refusal-requires c κs = search needs
+acceptance-refusal-requires : tie.Need-acceptance-refusal-requires
+acceptance-refusal-requires c κs = search needs
 
 returns-3 : tie.Need-returns-3
 returns-3 c = says (c .before) ∙ refused-at-start _ _ _ _ _ (counted (c .before)) (λ z. c .if3 .taken (says (c .before) ∙ z))
@@ -124,8 +124,8 @@ later-requires c κs = rw (toZ-ofZ (o c .fits .day)) (record { accepted = accept
 accept-requires-2 : tie.Need-accept-requires-2
 accept-requires-2 c κs = search needs
 
-instant-refusal-requires-2 : tie.Need-instant-refusal-requires-2
-instant-refusal-requires-2 c κs = search needs
+acceptance-refusal-requires-2 : tie.Need-acceptance-refusal-requires-2
+acceptance-refusal-requires-2 c κs = search needs
 
 returns-4 : tie.Need-returns-4
 returns-4 c = ended (c .before) (c .if4 .taken) ∙ sym (rest (c .before))
@@ -135,13 +135,13 @@ mul-if5 c = omega (arith, counted (e (c .before) .before) .count-most)
 
 returns-5 : tie.Need-returns-5
 returns-5 c =
-    let l : tie.After-instant-refusal2 = c .before .before in
+    let l : tie.After-acceptance-refusal2 = c .before .before in
     let h : short l ≡ true = lt-ltb _ _ (c .if5 .taken) in
     sym (rest l ∙ (went-on l (c .before .if4 .left) ∙ ap (λ (x : Bool). cond x 12 0) h))
 
 returns-6 : tie.Need-returns-6
 returns-6 c =
-    let l : tie.After-instant-refusal2 = c .before .before in
+    let l : tie.After-acceptance-refusal2 = c .before .before in
     let h : short l ≡ false = le-ltb _ _ (c .if5 .left) in
     sym (rest l ∙ (went-on l (c .before .if4 .left) ∙ ap (λ (x : Bool). cond x 12 0) h))
 
@@ -152,13 +152,13 @@ refusal-spec =
     returns
     returns-2
     accept-requires
-    instant-refusal-requires
+    acceptance-refusal-requires
     returns-3
     sub-later
     mul-later
     later-requires
     accept-requires-2
-    instant-refusal-requires-2
+    acceptance-refusal-requires-2
     returns-4
     mul-if5
     returns-5

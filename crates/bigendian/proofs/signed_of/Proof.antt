@@ -1,4 +1,4 @@
--- `bigendian::signed` meets its contract: below 2^31 the number is itself, from there on the code takes 256^4 away. Assumes nothing.
+-- `bigendian::signed_of` meets its contract: below 2^31 the number is itself, from there on the code takes 256^4 away. Assumes nothing.
 use Rattle.bigendian.proofs.Signs.{minus-32, minus-fits, minus-read}
 use Prim.Native.Nat.{ℕ, _-_, _^_}
 use mathlib.Core.Path.{_≡_}
@@ -8,8 +8,8 @@ use mir.Val.{SFits, toZ, ofZ}
 use mir.Facts.{toZ-ofZ}
 use borrow.Author.Tests.{lt-ltb, le-ltb}
 use borrow.Author.Needs.{needs}
-use Rattle.bigendian.proofs.signed.Statement.{statement}
-use Rattle.bigendian.proofs.signed.Tie as tie
+use Rattle.bigendian.proofs.signed_of.Statement.{statement}
+use Rattle.bigendian.proofs.signed_of.Tie as tie
 
 -- the numbers from 2^31 on
 module _ (c : tie.Else1) where
@@ -40,6 +40,6 @@ cast-result-3 c = rw (reads c) (fits c)
 returns-2 : tie.Need-returns-2
 returns-2 c = simp (reads c, toZ-ofZ (fits c), le-ltb _ _ (c .if1 .left))
 
-pub signed-spec : {M : Type 1} → statement M
-signed-spec =
+pub signed-of-spec : {M : Type 1} → statement M
+signed-of-spec =
     tie.close (tie.spec cast-result returns cast-result-2 sub-result cast-result-3 returns-2)

@@ -1,4 +1,4 @@
--- `bigendian::unsigned` meets its contract: below 0 the code adds 256^4, else it leaves the number, and both are the two's complement in four
+-- `bigendian::twos_complement` meets its contract: below 0 the code adds 256^4, else it leaves the number, and both are the two's complement in four
 -- bytes. Assumes nothing.
 use native.Mathlib.Omega.{arith}
 use mathlib.Core.Path.{_≡_, refl}
@@ -9,8 +9,8 @@ use mir.Facts.{toZ-ofZ}
 use Prim.Native.Nat.{_^_, _<_}
 use Rattle.bigendian.specs.Numbers.{twosComplement}
 use Rattle.bigendian.proofs.Signs.{Below, below, above, twos-below}
-use Rattle.bigendian.proofs.unsigned.Statement.{statement}
-use Rattle.bigendian.proofs.unsigned.Tie as tie
+use Rattle.bigendian.proofs.twos_complement.Statement.{statement}
+use Rattle.bigendian.proofs.twos_complement.Tie as tie
 
 small : (s : tie.Start) → twosComplement 4 (s .args .x) < 256 ^ 4
 small s = twos-below 4 (s .args .x) (s .pre .sfits)
@@ -36,5 +36,5 @@ cast-result-2 c = rw (other c) (tt, record { fits = omega (arith, small (c .befo
 returns-2 : tie.Need-returns-2
 returns-2 c = rw (other c) (refl, small (c .before))
 
-pub unsigned-spec : {M : Type 1} → statement M
-unsigned-spec = tie.close (tie.spec add-result cast-result returns cast-result-2 returns-2)
+pub twos-complement-spec : {M : Type 1} → statement M
+twos-complement-spec = tie.close (tie.spec add-result cast-result returns cast-result-2 returns-2)
