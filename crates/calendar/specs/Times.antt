@@ -7,11 +7,12 @@ use Rattle.instants.specs.Refusals.{Case, case, refusedOr}
 use Rattle.instants.specs.Instants.{instant, dayAtIndex}
 use Rattle.calendar.specs.Dates.{date, dateIndex, dateCases}
 use Rattle.calendar.specs.declared.InstantAnswer.{InstantAnswer}
+use Rattle.calendar.specs.Limits.{secondMicros}
 use Rattle.calendar.specs.declared.InstantAnswer.the-variants.{AtInstant, NoInstant}
 
 -- the microseconds of a time of day
 abbrev pub microsOfTime : ℕ → ℕ → ℕ → ℕ → ℕ
-microsOfTime hour minute second microsecond = ((hour * 60 + minute) * 60 + second) * 1_000_000 + microsecond
+microsOfTime hour minute second microsecond = ((hour * 60 + minute) * 60 + second) * secondMicros + microsecond
 
 -- the refusals of a time of day
 abbrev pub timeCases : (hour minute second microsecond : ℕ) → List Case

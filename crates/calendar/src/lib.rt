@@ -14,7 +14,7 @@ const FIRST_YEAR: u64 = 1900;
 const LAST_YEAR: u64 = 2100;
 
 // The microseconds of a second.
-const SECOND: u64 = 1000000;
+pub const SECOND_MICROS: u64 = 1000000;
 
 // The days of 400, 100 and 4 years and of one, where a leap year comes last in its group of four and is left out at the end of a century.
 const DAYS_400: u64 = 146097;
@@ -215,7 +215,7 @@ fn time_of(day: i64, hour: u64, minute: u64, second: u64, microsecond: u64) -> I
     }
     InstantAnswer::AtInstant(Instant {
         day: day,
-        micros: ((hour * 60 + minute) * 60 + second) * SECOND + microsecond,
+        micros: ((hour * 60 + minute) * 60 + second) * SECOND_MICROS + microsecond,
     })
 }
 

@@ -14,8 +14,8 @@ use Rattle.instants.specs.declared.IndexAnswer.the-variants.{AtIndex, No
 use Rattle.instants.specs.declared.Acceptance.the-variants.{Accepted, NotAccepted}
 use Rattle.instants.specs.Limits.{firstDay, lastDay, dayMicros, indexOffset}
 use Rattle.instants.specs.Refusals.{refusedOr, firstRefusal}
-use Rattle.instants.specs.Instants.{outside, dayIndex, instantCases, acceptance, acceptanceRefusal}
-use Rattle.instants.specs.Inner.{indexAnswer}
+use Rattle.instants.specs.Instants.{outside, dayIndex, instantCases, acceptance}
+use Rattle.instants.specs.Inner.{acceptanceRefusal, indexAnswer}
 use Rattle.instants.proofs.Signs.{firstIndex, lastIndex, DayInRange, day-in-range}
 
 -- a day number without an index is outside

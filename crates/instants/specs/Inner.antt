@@ -4,6 +4,8 @@ use mathlib.Core.Bool.{cond}
 use lib.IntN.{ℤ}
 use Rattle.instants.specs.Instants.{instant, outside, dayIndex, IsAccepted, laterDay, laterMicros}
 use Rattle.instants.specs.declared.Instant.{Instant}
+use Rattle.instants.specs.declared.Acceptance.{Acceptance}
+use Rattle.instants.specs.declared.Acceptance.the-variants.{Accepted, NotAccepted}
 use Rattle.instants.specs.declared.IndexAnswer.{IndexAnswer}
 use Rattle.instants.specs.declared.IndexAnswer.the-variants.{AtIndex, NoIndex}
 
@@ -14,6 +16,11 @@ indexLimit = 1_000_000
 -- a day number's index, or that it has none in range
 unfoldable pub indexAnswer : ℤ → IndexAnswer
 indexAnswer z = cond (outside z) NoIndex (AtIndex (dayIndex z))
+
+-- the refusal number of an instant, 0 for an accepted one
+abbrev pub acceptanceRefusal : Acceptance → ℕ
+acceptanceRefusal (Accepted i) = 0
+acceptanceRefusal (NotAccepted n) = n
 
 -- the instant t microseconds after the instant d, m
 abbrev pub laterInstant : ℤ → ℕ → ℕ → Instant

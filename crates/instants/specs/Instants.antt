@@ -41,11 +41,6 @@ acceptance d m = refusedOr NotAccepted (instantCases d m) (Accepted (dayIndex d)
 abbrev pub IsAccepted : ℤ → ℕ → Type 0
 IsAccepted d m = acceptance d m ≡ Accepted (dayIndex d)
 
--- the refusal number of an instant, 0 for an accepted one
-abbrev pub acceptanceRefusal : Acceptance → ℕ
-acceptanceRefusal (Accepted i) = 0
-acceptanceRefusal (NotAccepted n) = n
-
 -- the instant t microseconds after the instant d, m: its day number, and the microseconds of that day
 abbrev pub laterDay : ℤ → ℕ → ℕ → ℤ
 laterDay d m t = d +ℤ pos ((m + t) / dayMicros)

@@ -9,7 +9,8 @@ use lib.IntN.{ℤ}
 use lib.Signed.{ltZ}
 use borrow.Author.Tests.{ltb-false, le-ltb, lt-leb}
 use Rattle.instants.specs.Limits.{lastDay, dayMicros}
-use Rattle.instants.specs.Instants.{dayIndex, instantCases, acceptance, acceptanceRefusal, IsAccepted, laterDay, laterMicros}
+use Rattle.instants.specs.Instants.{dayIndex, instantCases, acceptance, IsAccepted, laterDay, laterMicros}
+use Rattle.instants.specs.Inner.{acceptanceRefusal}
 use Rattle.instants.proofs.FirstRefusal.{refused-first, first-none}
 use Rattle.instants.proofs.Accepted.{both-false, accepted-at, accepted-none, acceptance-refusal}
 use Rattle.record.specs.Format.{recordLength}

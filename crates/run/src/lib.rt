@@ -6,9 +6,9 @@ use zonal::ZonalAnswer;
 ghost use mathlib.Core.Path.{_≡_};
 ghost use lib.ListN.{length};
 ghost use Rattle.bigendian.specs.Buffers.{atFront};
-ghost use Rattle.instants.specs.Instants.{acceptanceRefusal, laterDay, laterMicros};
+ghost use Rattle.instants.specs.Inner.{acceptanceRefusal, LaterBounds};
+ghost use Rattle.instants.specs.Instants.{laterDay, laterMicros};
 ghost use Rattle.run.specs.Run.{runRefusal, runBytes, runWritten};
-ghost use Rattle.instants.specs.Inner.{LaterBounds};
 ghost use Rattle.run.specs.Inner.{writtenAt};
 
 // The most records of a run.

@@ -19,7 +19,8 @@ use Rattle.record.specs.Format.{recordLength}
 use Rattle.run.specs.Run.{runRefusal, runWritten}
 use Rattle.run.proofs.Refusals.{not-refused}
 use Rattle.run_line.specs.declared.Outcome.the-variants.{Run, NoRun, Bad}
-use Rattle.run_line.specs.Answer.{second, lineDay, dayRunCases, lineCases, forLine, outcomeOf, filledOf}
+use Rattle.calendar.specs.Limits.{secondMicros}
+use Rattle.run_line.specs.Answer.{lineDay, dayRunCases, lineCases, forLine, outcomeOf, filledOf}
 
 -- ---- the answer, case by case
 
@@ -38,7 +39,7 @@ module _ (s : List ℕ) (old : List ℕ) where
 
     pub on-date : (d : ℤ) → dayOf (l .year) (l .month) (l .day) ≡ Day d
         → (refusedOr NoRun (dayRunCases d (l .count) (l .step) (length old)) (Run (recordLength * l .count)) ≡ outcomeOf s (length old))
-        × (runWritten d 0 (l .count) (l .step * second) old ≡ filledOf s old)
+        × (runWritten d 0 (l .count) (l .step * secondMicros) old ≡ filledOf s old)
     unfolding outcomeOf filledOf dayOf runWritten
     on-date d f =
         let cs = dateCases (l .year) (l .month) (l .day) in
@@ -53,7 +54,7 @@ pub record IsRun (s : List ℕ) (n k : ℕ) : Type 0 where
   pub day : ℤ
   pub is-line : lineOf s ≡ Parsed line
   pub is-day : dayOf (line .year) (line .month) (line .day) ≡ Day day
-  pub none : runRefusal day 0 (line .count) (line .step * second) n ≡ 0
+  pub none : runRefusal day 0 (line .count) (line .step * secondMicros) n ≡ 0
   pub size : k ≡ recordLength * line .count
 
 pub is-run : (s : List ℕ) (n k : ℕ) → outcomeOf s n ≡ Run k → IsRun s n k
@@ -79,4 +80,4 @@ is-run s n k e = by (lineOf s) refl e
 pub run-within : (s : List ℕ) (n k : ℕ) → outcomeOf s n ≡ Run k → k ≤ n
 run-within s n k e =
     let r : IsRun s n k = is-run s n k e in
-    omega (arith, r .size, not-refused (r .day) 0 (r .line .count) (r .line .step * second) n (r .none) .room)
+    omega (arith, r .size, not-refused (r .day) 0 (r .line .count) (r .line .step * secondMicros) n (r .none) .room)

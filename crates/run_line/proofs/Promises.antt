@@ -28,7 +28,8 @@ use Rattle.run.proofs.Refusals.{not-refused, between}
 use Rattle.run.proofs.Records.{run-length, run-written}
 use Rattle.run_line.specs.declared.Outcome.{Outcome}
 use Rattle.run_line.specs.declared.Outcome.the-variants.{Run, NoRun, Bad}
-use Rattle.run_line.specs.Answer.{second, lineDay, forLine, outcomeOf, filledForLine, filledOf}
+use Rattle.calendar.specs.Limits.{secondMicros}
+use Rattle.run_line.specs.Answer.{lineDay, forLine, outcomeOf, filledForLine, filledOf}
 use Rattle.run_line.proofs.Answers.{IsRun, is-run, on-date}
 
 -- ---- the refusals
@@ -38,8 +39,8 @@ abbrev pub shortCases : Line → List Case
 shortCases l =
     dateCases (l .year) (l .month) (l .day)
     ++ case 17 (badCount (l .count))
-    ∷ case 18 (badStep (l .step * second))
-    ∷ case 8 (ltZ lastDay (laterDay (lineDay l) 0 ((l .count - 1) * (l .step * second))))
+    ∷ case 18 (badStep (l .step * secondMicros))
+    ∷ case 8 (ltZ lastDay (laterDay (lineDay l) 0 ((l .count - 1) * (l .step * secondMicros))))
     ∷ []
 
 -- PROMISE. A line of five numbers is answered by the first of these refusals that applies: 1, 2 and 3 for the date, 17 for the count, 18 for the
@@ -61,13 +62,13 @@ line-answer s l n room e =
 pub record RunAnswer (s old : List ℕ) (k : ℕ) : Type 0 where
   pub asked : IsRun s (length old) k
   pub most : k ≤ 2880
-  pub bytes : take k (filledOf s old) ≡ runBytes (asked .day) 0 (asked .line .step * second) (asked .line .count)
+  pub bytes : take k (filledOf s old) ≡ runBytes (asked .day) 0 (asked .line .step * secondMicros) (asked .line .count)
 
 -- PROMISE. An answer that is a run is 30 bytes for each of the line's count, never more than 2,880: the records of the run that starts at 0 h of the line's date.
 pub answer-run : (s old : List ℕ) (k : ℕ) → outcomeOf s (length old) ≡ Run k → RunAnswer s old k
 answer-run s old k e =
     let r : IsRun s (length old) k = is-run s (length old) k e in
-    let t : ℕ = r .line .step * second in
+    let t : ℕ = r .line .step * secondMicros in
     let w : filledOf s old ≡ atFront (runBytes (r .day) 0 t (r .line .count)) old =
     sym (on-date s old (r .line) (r .is-line) (r .day) (r .is-day) .1) ∙ run-written (r .day) 0 (r .line .count) t old (r .none) in
     record {

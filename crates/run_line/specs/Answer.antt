@@ -14,11 +14,8 @@ use Rattle.line.specs.Lines.{lineOf}
 use Rattle.record.specs.Format.{recordLength}
 use Rattle.run.specs.Run.{runCases, runBytes}
 use Rattle.run_line.specs.declared.Outcome.{Outcome}
+use Rattle.calendar.specs.Limits.{secondMicros}
 use Rattle.run_line.specs.declared.Outcome.the-variants.{Run, NoRun, Bad}
-
--- the microseconds of a second
-abbrev pub second : ℕ
-second = 1_000_000
 
 -- the day number of a line's date
 abbrev pub lineDay : Line → ℤ
@@ -26,7 +23,7 @@ lineDay l = dayAtIndex (dateIndex (date (l .year) (l .month) (l .day)))
 
 -- the refusals of a run from 0 h of a day, with a step in seconds and a buffer of n bytes
 abbrev pub dayRunCases : ℤ → (count step n : ℕ) → List Case
-dayRunCases d count step n = runCases d 0 count (step * second) n
+dayRunCases d count step n = runCases d 0 count (step * secondMicros) n
 
 -- the refusals of a line: of its date, and of the run
 abbrev pub lineCases : Line → ℕ → List Case
@@ -45,7 +42,7 @@ outcomeOf s n = forLine (lineOf s) n
 abbrev pub filledForLine : LineAnswer → List ℕ → List ℕ
 filledForLine BadLine old = old
 filledForLine (Parsed l) old =
-    refusedOr (λ _. old) (lineCases l (length old)) (atFront (runBytes (lineDay l) 0 (l .step * second) (l .count)) old)
+    refusedOr (λ _. old) (lineCases l (length old)) (atFront (runBytes (lineDay l) 0 (l .step * secondMicros) (l .count)) old)
 
 -- the buffer's bytes afterwards
 unfoldable pub filledOf : List ℕ → List ℕ → List ℕ

@@ -1,5 +1,6 @@
 // The program's answer to a line of input.
 use calendar::DayAnswer;
+use calendar::SECOND_MICROS;
 use line::LineAnswer;
 use record::LENGTH;
 ghost use mathlib.Core.Path.{_≡_};
@@ -9,10 +10,8 @@ ghost use Rattle.instants.specs.Refusals.{refusedOr};
 ghost use Rattle.record.specs.Format.{recordLength};
 ghost use Rattle.run.specs.Run.{runWritten};
 ghost use Rattle.run_line.specs.declared.Outcome.the-variants as outcome;
-ghost use Rattle.run_line.specs.Answer.{second, dayRunCases, outcomeOf, filledOf};
-
-// The microseconds of a second.
-const SECOND: u64 = 1000000;
+ghost use Rattle.calendar.specs.Limits.{secondMicros};
+ghost use Rattle.run_line.specs.Answer.{dayRunCases, outcomeOf, filledOf};
 
 // What the program answers: a run, so many bytes at the front of the buffer; a refusal number; or a bad line.
 pub enum Outcome {
@@ -25,9 +24,9 @@ pub enum Outcome {
 fn day_run(day: i64, count: u64, step: u64, buffer: &mut [u8]) -> Outcome
     requires { ⌜ step < 10 ^ 10 ⌝ }
     ensures outcome { λ r. ⌜ r ≡ refusedOr outcome.NoRun (dayRunCases day count step (length (now (buffer .entry)))) (outcome.Run (recordLength * count)) ⌝ }
-    ensures buffer { λ _. ⌜ now (buffer .exit) ≡ runWritten day 0 count (step * second) (now (buffer .entry)) ⌝ }
+    ensures buffer { λ _. ⌜ now (buffer .exit) ≡ runWritten day 0 count (step * secondMicros) (now (buffer .entry)) ⌝ }
 {
-    let n = run::write(day, 0, count, step * SECOND, buffer);
+    let n = run::write(day, 0, count, step * SECOND_MICROS, buffer);
     if n != 0 {
         return Outcome::NoRun(n);
     }

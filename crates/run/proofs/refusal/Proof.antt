@@ -13,10 +13,10 @@ use mir.Val.{toZ, ofZ}
 use mir.Facts.{toZ-ofZ}
 use Rattle.instants.specs.declared.Instant.{Instant}
 use Rattle.instants.specs.Limits.{lastDay, dayMicros}
-use Rattle.instants.specs.Instants.{acceptance, acceptanceRefusal, IsAccepted, laterDay, laterMicros}
+use Rattle.instants.specs.Instants.{acceptance, IsAccepted, laterDay, laterMicros}
+use Rattle.instants.specs.Inner.{acceptanceRefusal, laterInstant}
 use Rattle.record.specs.Format.{recordLength}
 use Rattle.run.specs.Run.{mostRecords, runRefusal}
-use Rattle.instants.specs.Inner.{laterInstant}
 use Rattle.instants.proofs.LaterInstants.{day-fits}
 use Rattle.run.proofs.Refusals.{none-accepted, later-refusal, Counted, refused-at-start, refused-later, between, steps-few}
 use borrow.Author.Needs.{needs}

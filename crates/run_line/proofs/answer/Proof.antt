@@ -14,7 +14,8 @@ use Rattle.line.specs.Lines.{lineOf}
 use Rattle.record.specs.Format.{recordLength}
 use Rattle.run.specs.Run.{runWritten}
 use Rattle.run_line.specs.declared.Outcome.the-variants.{Run, NoRun}
-use Rattle.run_line.specs.Answer.{second, dayRunCases}
+use Rattle.calendar.specs.Limits.{secondMicros}
+use Rattle.run_line.specs.Answer.{dayRunCases}
 use Rattle.run_line.proofs.Small.{step-small}
 use Rattle.run_line.proofs.Answers.{bad, no-date, on-date}
 use borrow.Author.Needs.{needs}
@@ -82,7 +83,7 @@ returns-3 c =
     let e : toZ w64 (ofZ w64 d) ≡ d = toZ-ofZ (search needs) in
     let p = on-date (now (s a .args .s)) (now (s a .args .buffer)) (l a) (is-line a) d (sym (a .day-of .ensures) ∙ k .d .given .1) in (
       w .day-run .ensures .0 ∙ (ap (λ (z : ℤ). refusedOr NoRun (dayRunCases z (l a .count) (l a .step) (length (now (s a .args .buffer)))) (Run (recordLength * l a .count))) e ∙ p .0),
-      w .day-run .ensures .1 ∙ (ap (λ (z : ℤ). runWritten z 0 (l a .count) (l a .step * second) (now (s a .args .buffer))) e ∙ p .1),
+      w .day-run .ensures .1 ∙ (ap (λ (z : ℤ). runWritten z 0 (l a .count) (l a .step * secondMicros) (now (s a .args .buffer))) e ∙ p .1),
     )
 
 pub answer-spec : {M : Type 1} → statement M

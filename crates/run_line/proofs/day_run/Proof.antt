@@ -13,7 +13,8 @@ use Rattle.instants.proofs.FirstRefusal.{none-answered, refused-first, first-no
 use Rattle.run.specs.Run.{runRefusal, runWritten}
 use Rattle.run.proofs.Refusals.{not-refused}
 use Rattle.run_line.specs.declared.Outcome.the-variants.{NoRun}
-use Rattle.run_line.specs.Answer.{second, dayRunCases}
+use Rattle.calendar.specs.Limits.{secondMicros}
+use Rattle.run_line.specs.Answer.{dayRunCases}
 use borrow.Author.Needs.{needs}
 use Rattle.run_line.proofs.day_run.Statement.{statement}
 use Rattle.run_line.proofs.day_run.Tie as tie
@@ -29,11 +30,11 @@ module _ (c : tie.After-slice-known2) where
   abbrev cases : List Case
   cases = dayRunCases (s .args .day) (s .args .count) (s .args .step) (length (now (s .args .buffer)))
 
-  says : w .write .result ≡ runRefusal (s .args .day) 0 (s .args .count) (s .args .step * second) (length (now (s .args .buffer)))
-  says = w .write .ensures .0 ∙ ap (λ (d : ℤ). runRefusal d 0 (s .args .count) (s .args .step * second) (length (now (s .args .buffer)))) (toZ-ofZ (s .fits .day))
+  says : w .write .result ≡ runRefusal (s .args .day) 0 (s .args .count) (s .args .step * secondMicros) (length (now (s .args .buffer)))
+  says = w .write .ensures .0 ∙ ap (λ (d : ℤ). runRefusal d 0 (s .args .count) (s .args .step * secondMicros) (length (now (s .args .buffer)))) (toZ-ofZ (s .fits .day))
 
-  fills : w .write .last .1 .1 .1 .1 .0 ≡ runWritten (s .args .day) 0 (s .args .count) (s .args .step * second) (now (s .args .buffer))
-  fills = w .write .ensures .1 ∙ ap (λ (d : ℤ). runWritten d 0 (s .args .count) (s .args .step * second) (now (s .args .buffer))) (toZ-ofZ (s .fits .day))
+  fills : w .write .last .1 .1 .1 .1 .0 ≡ runWritten (s .args .day) 0 (s .args .count) (s .args .step * secondMicros) (now (s .args .buffer))
+  fills = w .write .ensures .1 ∙ ap (λ (d : ℤ). runWritten d 0 (s .args .count) (s .args .step * secondMicros) (now (s .args .buffer))) (toZ-ofZ (s .fits .day))
 
 mul-write : tie.Need-mul-write
 mul-write c = search needs
