@@ -5,12 +5,40 @@ use Prim.Native.Nat.{ℕ, zero, suc, _+_, _*_, _-_, _/_, _%_, _^_, _≤_, _<_}
 use native.Mathlib.Nat as Nat
 use native.Mathlib.Nat.{le-trans, mul-le-mul}
 use native.Mathlib.Omega.{arith}
-use lib.Dec.{lit≤}
+use mathlib.Core.Path.{_≡_}
+use mathlib.Core.Bool.{Bool, _&&_}
+use lib.Dec.{T, ltb, ltb→lt, lit≤}
+use Rattle.algebra.proofs.Tests.{and-split}
 use lib.ListN.{getD}
 use Rattle.arguments.specs.declared.Half.{Half}
 use Rattle.instants.specs.Moments.{latest}
 use Rattle.arguments.specs.Ours.{high, perCentury, term₃, term₂, term₁, halfAt, up₁, down₁, up₂, down₂, up₃, down₃, up₄, down₄, up₅, down₅, argument, ourArguments}
 use Rattle.arguments.specs.Inner.{HalfBounds}
+
+-- the constants of a half are small enough, as a test that computes
+abbrev pub halfSmall : Half → Bool
+halfSmall k = ltb (k .a0) (2 ^ 54) && (ltb (k .g) (2 ^ 64) && (ltb (k .k2) (2 ^ 36) && (ltb (k .k3) (2 ^ 27) && ltb (k .k4) (2 ^ 19))))
+
+pub half-bounds : (k : Half) {x s : ℕ} → T (halfSmall k) → x ≤ latest → s ≡ high x perCentury → HalfBounds x s k
+half-bounds k t time centuries =
+    let start = ltb (k .a0) (2 ^ 54) in
+    let slope = ltb (k .g) (2 ^ 64) in
+    let second = ltb (k .k2) (2 ^ 36) in
+    let third = ltb (k .k3) (2 ^ 27) in
+    let fourth = ltb (k .k4) (2 ^ 19) in
+    let t₀ = and-split start (slope && (second && (third && fourth))) t in
+    let t₁ = and-split slope (second && (third && fourth)) (t₀ .1) in
+    let t₂ = and-split second (third && fourth) (t₁ .1) in
+    let t₃ = and-split third fourth (t₂ .1) in
+    record {
+      time = time;
+      centuries = centuries;
+      start = ltb→lt _ _ (t₀ .0);
+      slope = ltb→lt _ _ (t₁ .0);
+      second = ltb→lt _ _ (t₂ .0);
+      third = ltb→lt _ _ (t₃ .0);
+      fourth = ltb→lt _ _ (t₃ .1);
+    }
 
 -- nine centuries and a little, in units of 2^-24 century
 abbrev pub centuriesMost : ℕ

@@ -23,7 +23,7 @@ in-range-requires-5 c κs = search needs
 in-range-requires-6 : tie.Need-in-range-requires-6
 in-range-requires-6 c κs = search needs
 
--- the places after each call, from the last back to the entry
+-- the calls' equations, from the last place back to the first, and each multiplier read back
 returns : tie.Need-returns
 unfolding allInRange
 returns c =
@@ -32,9 +32,21 @@ returns c =
     let third = fourth .before .before in
     let second = third .before .before in
     let first = second .before .before in
-    let start = first .before .before in
-    let b = each-back (start .args .k) (c .before .struct-told6 .given) in
-    cc
+    let b = each-back (first .before .before .args .k) (c .before .struct-told6 .given) in
+    rw (
+      c .in-range6 .ensures,
+      fifth .in-range5 .ensures,
+      fourth .in-range4 .ensures,
+      third .in-range3 .ensures,
+      second .in-range2 .ensures,
+      first .in-range .ensures,
+      b .k1,
+      b .k2,
+      b .k3,
+      b .k4,
+      b .k5,
+      b .k6,
+    )
 
 pub all-in-range-spec : {M : Type 1} → statement M
 all-in-range-spec =

@@ -43,11 +43,30 @@ product-requires-5 c κs = let s = from-fifth c in rw (each-back (s .args .k) (c
 product-requires-6 : tie.Need-product-requires-6
 product-requires-6 c κs = let s = from-sixth c in rw (each-back (s .args .k) (c .struct-told6 .given) .k6) (each (s .args .k) (s .pre) .k6)
 
+-- the calls' equations, from the last place back to the first, and each multiplier read back
 returns : tie.Need-returns
 unfolding sumOfProducts ofBits
 returns c =
-    let b = each-back (from-sixth (c .before) .args .k) (c .before .struct-told6 .given) in
-    cc
+    let fifth = c .before .before in
+    let fourth = fifth .before .before in
+    let third = fourth .before .before in
+    let second = third .before .before in
+    let first = second .before .before in
+    let b = each-back (first .before .before .args .k) (c .before .struct-told6 .given) in
+    rw (
+      c .product6 .ensures,
+      fifth .product5 .ensures,
+      fourth .product4 .ensures,
+      third .product3 .ensures,
+      second .product2 .ensures,
+      first .product .ensures,
+      b .k1,
+      b .k2,
+      b .k3,
+      b .k4,
+      b .k5,
+      b .k6,
+    )
 
 pub sum-of-products-spec : {M : Type 1} → statement M
 sum-of-products-spec =
