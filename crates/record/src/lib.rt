@@ -2,6 +2,7 @@
 use clock::ClockWords;
 use clock::JoinAnswer;
 use clock::SplitAnswer;
+use instants::Instant;
 ghost use mathlib.Core.Path.{_≡_};
 ghost use mathlib.Core.List.{[], _∷_, _++_};
 ghost use Prim.Native.Nat.{_+_, _^_, _<_, _≤_};
@@ -9,9 +10,9 @@ ghost use lib.ListN.{length};
 ghost use mir.Syntax.{w32};
 ghost use mir.Val.{SFits};
 ghost use Rattle.bigendian.specs.Numbers.{twosComplement};
-ghost use Rattle.record.specs.Format.{fieldAt, fieldBytes, recordBytes};
+ghost use Rattle.record.specs.Format.{recordLength, fieldAt, fieldBytes, recordBytes};
 ghost use Rattle.record.specs.Inner.{withField, formRefusal};
-ghost use Rattle.record.specs.Records.{writeRefusal, written, readOf};
+ghost use Rattle.record.specs.Records.{writeRefusal, written, recordOf, readOf};
 
 // The bytes of a record.
 pub const LENGTH: usize = 30;
@@ -152,6 +153,20 @@ fn form(s: &[u8]) -> u32
     0
 }
 
+// An instant with the three numbers in s.
+fn record_of(t: Instant, s: &[u8]) -> Record
+    requires { ⌜ recordLength ≤ length (now s) ⌝ }
+    ensures { λ r. ⌜ r ≡ recordOf t (now (s .entry)) ⌝ }
+{
+    Record {
+        day: t.day,
+        micros: t.micros,
+        ut1: bigendian::signed_of(field_at(s, UT1_FIELD)),
+        lod: bigendian::signed_of(field_at(s, LOD_FIELD)),
+        rate: bigendian::signed_of(field_at(s, RATE_FIELD)),
+    }
+}
+
 // The record that the front of s is, or the refusal of reading it.
 pub fn read(s: &[u8]) -> ReadAnswer
     ensures { λ r. ⌜ r ≡ readOf (now (s .entry)) ⌝ }
@@ -162,12 +177,6 @@ pub fn read(s: &[u8]) -> ReadAnswer
     }
     match clock::join(field_at(s, DAY_FIELD) as i64, field_at(s, TIME_FIELD)) {
         JoinAnswer::NoJoin(n) => ReadAnswer::NoRecord(n),
-        JoinAnswer::Joined(t) => ReadAnswer::IsRecord(Record {
-            day: t.day,
-            micros: t.micros,
-            ut1: bigendian::signed_of(field_at(s, UT1_FIELD)),
-            lod: bigendian::signed_of(field_at(s, LOD_FIELD)),
-            rate: bigendian::signed_of(field_at(s, RATE_FIELD)),
-        }),
+        JoinAnswer::Joined(t) => ReadAnswer::IsRecord(record_of(t, s)),
     }
 }

@@ -1,4 +1,4 @@
--- `record::read` meets its contract: the form is refused, the clock words are refused, or the record is that of the fields. Assumes nothing.
+-- `record::read` meets its contract: the form is refused, the clock words are refused, or the record is that of the joined words and the fields. Assumes nothing.
 use Prim.Native.Nat.{ℕ, _^_, _<_, _≤_}
 use mathlib.Core.Path.{_≡_, ap, sym, _∙_}
 use mathlib.Core.List.{List}
@@ -6,13 +6,11 @@ use native.Mathlib.Omega.{arith}
 use lib.IntN.{pos}
 use lib.ListN.{length}
 use denote.Ref.{now}
-use mir.Syntax.{w32, w64}
-use mir.Val.{SFits}
-use mir.Facts.{toZ-ofZ, toZ-pos}
-use Rattle.bigendian.specs.Numbers.{signedOf}
+use mir.Syntax.{w64}
+use mir.Facts.{toZ-pos}
 use Rattle.instants.proofs.FirstRefusal.{refused-first}
 use Rattle.clock.specs.Words.{joinOf}
-use Rattle.record.specs.declared.ReadAnswer.the-variants.{NoRecord}
+use Rattle.record.specs.declared.ReadAnswer.the-variants.{IsRecord, NoRecord}
 use Rattle.record.specs.Format.{recordLength, dayField, timeField, fieldAt}
 use Rattle.record.specs.Records.{formCases, readOf}
 use Rattle.record.specs.Inner.{formRefusal}
@@ -21,7 +19,7 @@ use borrow.Author.Needs.{needs}
 use Rattle.record.proofs.read.Statement.{statement}
 use Rattle.record.proofs.read.Tie as tie
 
--- ---- the places, from later to earlier: the first two numbers are read, the words are joined, and the three numbers are read
+-- ---- the places, from later to earlier: the form is tested, the words are read and joined
 
 abbrev bytes : tie.After-form → List ℕ
 bytes c = now (c .before .before .args .s)
@@ -31,12 +29,6 @@ tested c = c .before .before .before
 
 abbrev joining : tie.After-t → tie.After-join
 joining c = c .before .before
-
-abbrev before-ut1 : tie.After-signed-of → tie.After-t
-before-ut1 c = c .before .before .before
-
-abbrev before-lod : tie.After-signed-of2 → tie.After-signed-of
-before-lod c = c .before .before
 
 -- ---- what is known there
 
@@ -82,23 +74,8 @@ enum-known-n c = search needs
 enum-known-t : tie.Need-enum-known-t
 enum-known-t c = search needs
 
-field-at-requires-3 : tie.Need-field-at-requires-3
-field-at-requires-3 c κs = omega (arith, long (tested (joining (c .before))))
-
-signed-of-requires : tie.Need-signed-of-requires
-signed-of-requires c κs = search needs
-
-field-at-requires-4 : tie.Need-field-at-requires-4
-field-at-requires-4 c κs = omega (arith, long (tested (joining (before-ut1 c))))
-
-signed-of-requires-2 : tie.Need-signed-of-requires-2
-signed-of-requires-2 c κs = search needs
-
-field-at-requires-5 : tie.Need-field-at-requires-5
-field-at-requires-5 c κs = omega (arith, long (tested (joining (before-ut1 (before-lod c)))))
-
-signed-of-requires-3 : tie.Need-signed-of-requires-3
-signed-of-requires-3 c κs = search needs
+record-of-requires : tie.Need-record-of-requires
+record-of-requires c κs = long (tested (joining (c .before)))
 
 returns-2 : tie.Need-returns-2
 returns-2 c =
@@ -107,19 +84,8 @@ returns-2 c =
 
 returns-3 : tie.Need-returns-3
 returns-3 c =
-    let z : tie.After-signed-of3 = c .before in
-    let y : tie.After-signed-of2 = z .before .before in
-    let x : tie.After-signed-of = before-lod y in
-    let t : tie.After-t = before-ut1 x in
-    let fd : SFits w64 (t .t .given .0 .0 .day) = search needs in
-    let fx : SFits w32 (x .signed-of .result) = search needs in
-    let fy : SFits w32 (y .signed-of2 .result) = search needs in
-    let fz : SFits w32 (z .signed-of3 .result) = search needs in
-    let u = x .signed-of .ensures ∙ ap (signedOf 4) (x .before .field-at3 .ensures .0) in
-    let l = y .signed-of2 .ensures ∙ ap (signedOf 4) (y .before .field-at4 .ensures .0) in
-    let r = z .signed-of3 .ensures ∙ ap (signedOf 4) (z .before .field-at5 .ensures .0) in
-    rw (toZ-ofZ fd, toZ-ofZ fx, toZ-ofZ fy, toZ-ofZ fz)
-    (simp (u, l, r) (sym (read-joined _ (right (tested (joining t))) _ (sym (joins (joining t)) ∙ t .t .given .1))))
+    let t : tie.After-t = c .before .before in
+    ap IsRecord (c .record-of .ensures) ∙ sym (read-joined _ (right (tested (joining t))) _ (sym (joins (joining t)) ∙ t .t .given .1))
 
 pub read-spec : {M : Type 1} → statement M
 read-spec =
@@ -133,11 +99,6 @@ read-spec =
     join-requires
     enum-known-n
     enum-known-t
-    field-at-requires-3
-    signed-of-requires
-    field-at-requires-4
-    signed-of-requires-2
-    field-at-requires-5
-    signed-of-requires-3
+    record-of-requires
     returns-2
     returns-3)
