@@ -35,6 +35,19 @@ front-take b old n e = take-at b _ n e
 pub front-behind : (b old : List ℕ) (n : ℕ) → length b ≡ n → drop n (atFront b old) ≡ drop n old
 front-behind b old n e = rw (front-is b old n e) (drop-at b (drop n old) n e)
 
+-- What a buffer keeps whose first n bytes are written anew: its length, and what is behind them.
+pub record Keeps (n : ℕ) (old new : List ℕ) : Type 0 where
+  pub size : length new ≡ length old
+  pub behind : drop n new ≡ drop n old
+
+-- one that is as it was
+pub kept : (n : ℕ) (old : List ℕ) → Keeps n old old
+kept n old = record { size = refl; behind = refl }
+
+-- and one with n bytes at its front
+pub front-keeps : (b old : List ℕ) (n : ℕ) → length b ≡ n → n ≤ length old → Keeps n old (atFront b old)
+front-keeps b old n e h = record { size = front-length b old (omega arith); behind = front-behind b old n e }
+
 -- one more piece, behind the first
 pub front-more : (b c old : List ℕ) (n : ℕ) → length b ≡ n → atFront (b ++ c) old ≡ b ++ atFront c (drop n old)
 unfolding atFront

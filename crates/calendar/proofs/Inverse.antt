@@ -6,9 +6,8 @@ use mathlib.Core.Bool.{false}
 use native.Mathlib.Omega.{arith}
 use native.Mathlib.Decide.{decLe}
 use native.Mathlib.Numerals.{add-one}
-use lib.Dec.{ltb}
-use lib.IntN.{ℤ, pos, _+ℤ_, natAbs, +ℤ-assoc, +ℤ-comm, -ℤ-+ℤ-cancel}
-use borrow.Author.Tests.{le-ltb, ltb-false}
+use lib.IntN.{ℤ, pos, _+ℤ_, natAbs, +ℤ-assoc, +ℤ-comm}
+use borrow.Author.Tests.{le-ltb}
 use Rattle.instants.proofs.Impossible.{impossible}
 use Rattle.instants.proofs.FirstRefusal.{NoneApplies, none-answered, answered-none}
 use Rattle.calendar.specs.declared.Date.{Date}
@@ -18,8 +17,8 @@ use Rattle.calendar.specs.Limits.{firstYear, lastYear}
 use Rattle.instants.specs.Instants.{outside, dayIndex, dayAtIndex}
 use Rattle.calendar.specs.Dates.{monthLength, daysOfYears, dateIndex, next, dateAfter, date, dateCases, dayOf, dayCases, dateOf}
 use Rattle.calendar.proofs.Dates.{Valid, Found, after, after-index, index-low, index-high, years-apart}
-use Rattle.instants.proofs.Signs.{firstIndex, lastIndex}
-use Rattle.instants.proofs.Accepted.{HasIndex, both-false, inside-index}
+use Rattle.instants.proofs.Signs.{index-up, day-natural, firstIndex, lastIndex}
+use Rattle.instants.proofs.Accepted.{HasIndex, between, inside-index}
 use Rattle.instants.specs.Limits.{indexOffset}
 use Rattle.calendar.proofs.Laws.{years-counted}
 
@@ -44,10 +43,10 @@ accepted-day y m d a =
 -- no case of a date applies
 none-date : (y m d : ℕ) → NoneApplies (dateCases y m d) → AcceptedDate y m d
 none-date y m d h =
-    let p = both-false (ltb y firstYear) (ltb lastYear y) (h .0) in
-    let q = both-false (ltb m 1) (ltb 12 m) (h .1 .0) in
-    let r = both-false (ltb d 1) (ltb (monthLength y m) d) (h .1 .1 .0) in
-    record { from = ltb-false _ _ (p .0); to = ltb-false _ _ (p .1); one = ltb-false _ _ (q .0); twelve = ltb-false _ _ (q .1); first = ltb-false _ _ (r .0); last = ltb-false _ _ (r .1) }
+    let p = between y firstYear lastYear (h .0) in
+    let q = between m 1 12 (h .1 .0) in
+    let r = between d 1 (monthLength y m) (h .1 .1 .0) in
+    record { from = p .0; to = p .1; one = q .0; twelve = q .1; first = r .0; last = r .1 }
 
 -- only an accepted date has a day number
 day-accepted : (y m d : ℕ) (z : ℤ) → dayOf y m d ≡ Day z → AcceptedDate y m d
@@ -78,7 +77,7 @@ index-range y m d a = (
 -- the number of an index in range is in range, and has that index
 number-pos : (n : ℕ) → firstIndex ≤ n → dayAtIndex n ≡ pos (n - indexOffset)
 unfolding dayAtIndex
-number-pos n h = simp (le-ltb n indexOffset (omega arith))
+number-pos n h = day-natural n (omega arith)
 
 number-inside : (n : ℕ) → firstIndex ≤ n → n ≤ lastIndex → outside (dayAtIndex n) ≡ false
 unfolding outside
@@ -138,7 +137,7 @@ has-date z o = none-answered NoDate (dayCases z) _ (o, tt)
 next-index : (z : ℤ) → HasIndex z (dayIndex z) → dayIndex (z +ℤ pos 1) ≡ suc (dayIndex z)
 unfolding dayIndex
 next-index z h =
-    let u : z +ℤ pos indexOffset ≡ pos (dayIndex z) = ap (λ (x : ℤ). x +ℤ pos indexOffset) (h .is) ∙ -ℤ-+ℤ-cancel (pos (dayIndex z)) (pos indexOffset) in
+    let u : z +ℤ pos indexOffset ≡ pos (dayIndex z) = index-up z (dayIndex z) (h .is) in
     let e : (z +ℤ pos 1) +ℤ pos indexOffset ≡ pos (dayIndex z + 1) =
     +ℤ-assoc z (pos 1) (pos indexOffset) ∙ (ap (λ (x : ℤ). z +ℤ x) (+ℤ-comm (pos 1) (pos indexOffset)) ∙ (sym (+ℤ-assoc z (pos indexOffset) (pos 1)) ∙ ap (λ (x : ℤ). x +ℤ pos 1) u)) in
     ap natAbs e ∙ add-one (dayIndex z)

@@ -1,11 +1,12 @@
--- The instant of a date and a time is accepted. Assumes nothing.
+-- The instant of a date and a time is accepted: no case of the date applies, so its day number has a date and is in range; none of the time applies,
+-- so its microseconds are fewer than a day's. Assumes nothing.
 use Prim.Native.Nat.{ℕ, _≤_, _<_}
 use mathlib.Core.Path.{_≡_, sym}
 use mathlib.Core.List.{_++_}
 use native.Mathlib.Omega.{arith}
 use borrow.Author.Tests.{ltb-false}
 use Rattle.instants.proofs.Impossible.{impossible}
-use Rattle.instants.proofs.FirstRefusal.{none-answered, answered-none}
+use Rattle.instants.proofs.FirstRefusal.{none-both, none-answered, answered-none}
 use Rattle.instants.specs.declared.Instant.{Instant}
 use Rattle.calendar.specs.declared.DayAnswer.the-variants.{Day, NoDay}
 use Rattle.calendar.specs.declared.InstantAnswer.the-variants.{AtInstant, NoInstant}
@@ -25,9 +26,10 @@ unfolding instantOf dayOf
 instant-accepted y m d h n s u t e =
     let z = dayAtIndex (dateIndex (date y m d)) in
     let r = answered-none NoInstant (dateCases y m d ++ timeCases h n s u) (AtInstant (instant z (microsOfTime h n s u))) (AtInstant t) (λ n p. impossible (cc)) e in
+    let q = none-both (dateCases y m d) (timeCases h n s u) (r .0) in
     let g : AtInstant (instant z (microsOfTime h n s u)) ≡ AtInstant t = r .1 in
     let i : instant z (microsOfTime h n s u) ≡ t = cc in
-    let f : dayOf y m d ≡ Day z = none-answered NoDay (dateCases y m d) (Day z) (r .0 .0, (r .0 .1 .0, (r .0 .1 .1 .0, tt))) in
-    let k = r .0 .1 .1 .1 in
+    let f : dayOf y m d ≡ Day z = none-answered NoDay (dateCases y m d) (Day z) (q .0) in
+    let k = q .1 in
     let l : microsOfTime h n s u < dayMicros = time-less h n s u (ltb-false _ _ (k .0)) (ltb-false _ _ (k .1 .0)) (ltb-false _ _ (k .1 .1 .0)) (ltb-false _ _ (k .1 .1 .1 .0)) in
     rw (sym i) (f, accepted z (microsOfTime h n s u) (date-range z (date y m d) (there-and-back y m d z f) .0) l)

@@ -2,21 +2,22 @@
 -- them. Two days less than eight apart with one mark have indices that are equal modulo 8, and so are one day. Assumes nothing.
 use Prim.Native.Nat.{ℕ, zero, suc, _+_, _-_, _*_, _/_, _%_, _<_, _≤_}
 use mathlib.Core.Path.{_≡_, refl, ap, _∙_, sym, subst}
-use mathlib.Core.Bool.{Bool, true, false, cond, not}
+use mathlib.Core.Bool.{Bool, true, false, cond}
 use native.Mathlib.Omega.{arith}
 use lib.Dec.{ltb}
-use lib.IntN.{ℤ, pos, negsuc, negℤ, _+ℤ_, _-ℤ_, natAbs, negℤ-+ℤ, +ℤ-comm, +ℤ-assoc, +ℤ-invr, +ℤ-idl, -ℤ-+ℤ-cancel}
-use borrow.Author.Tests.{eq-eqb, ne-eqb, ltb-true, ltb-false, eqb-true}
+use lib.IntN.{ℤ, pos, negsuc, negℤ, _+ℤ_, _-ℤ_, natAbs, negℤ-+ℤ, +ℤ-comm, +ℤ-assoc, +ℤ-invr, +ℤ-idl}
+use borrow.Author.Tests.{eq-eqb, ne-eqb, ltb-true, ltb-false, eqb-true, not-false}
 use Rattle.instants.proofs.Impossible.{impossible}
 use Rattle.instants.specs.declared.Instant.{Instant}
 use Rattle.instants.specs.Limits.{dayMicros, indexOffset}
 use Rattle.instants.specs.Instants.{instant, dayIndex, instantCases, IsAccepted}
-use Rattle.instants.proofs.FirstRefusal.{answered-none}
+use Rattle.instants.proofs.Signs.{index-up}
+use Rattle.instants.proofs.FirstRefusal.{none-both, answered-none}
 use Rattle.instants.proofs.Accepted.{AcceptedAt, accepted-at, none-accepted, accepted, answered-too}
 use Rattle.clock.specs.declared.ClockWords.{ClockWords}
 use Rattle.clock.specs.declared.SplitAnswer.the-variants.{Split, NoSplit}
 use Rattle.clock.specs.declared.JoinAnswer.the-variants.{Joined, NoJoin}
-use Rattle.clock.specs.Words.{markUnit, mark, timeWord, words, splitOf, joinCases, joinOf}
+use Rattle.clock.specs.Words.{markUnit, mark, timeWord, words, splitOf, markCases, joinCases, joinOf}
 use Rattle.clock.proofs.Mark.{mark-index}
 
 low-part : (m k : ℕ) → m < dayMicros → (m + k * markUnit) % markUnit ≡ m
@@ -53,11 +54,8 @@ unfolding joinOf
 was-joined d t i e =
     let r = answered-none NoJoin (joinCases d t) (Joined (instant d (t % markUnit))) (Joined i) (λ n p. impossible (cc)) e in
     let g : Joined (instant d (t % markUnit)) ≡ Joined i = r .1 in
-    record { accepted = none-accepted d (t % markUnit) (r .0 .0, (r .0 .1 .0, tt)); marked = eqb-true _ _ (not-false _ (r .0 .1 .1 .0)); is = cc }
-  where
-    not-false : (b : Bool) → not b ≡ false → b ≡ true
-    not-false true p = refl
-    not-false false p = impossible (cc)
+    let n = none-both (instantCases d (t % markUnit)) (markCases d t) (r .0) in
+    record { accepted = none-accepted d (t % markUnit) (n .0); marked = eqb-true _ _ (not-false _ (n .1 .0)); is = cc }
 
 -- PROMISE. Splitting an accepted instant and joining the words gives the instant back.
 pub split-then-join : (d : ℤ) (m : ℕ) → IsAccepted d m → joinOf d (timeWord d m) ≡ Joined (instant d m)
@@ -89,11 +87,8 @@ distance a b false p h = let q : b ≤ a = ltb-false a b p in (omega arith, omeg
 same-index : (a b : ℕ) → a < b + 8 → b < a + 8 → (a + 7) % 8 ≡ (b + 7) % 8 → a ≡ b
 same-index a b h k e = omega arith
 
-up : (d : ℤ) (i : ℕ) → d ≡ pos i -ℤ pos indexOffset → d +ℤ pos indexOffset ≡ pos i
-up d i e = ap (λ (x : ℤ). x +ℤ pos indexOffset) e ∙ -ℤ-+ℤ-cancel (pos i) (pos indexOffset)
-
 apart : (d e : ℤ) (i j : ℕ) → d ≡ pos i -ℤ pos indexOffset → e ≡ pos (suc j) -ℤ pos indexOffset → natAbs (d -ℤ e) < 8 → natAbs (pos i -ℤ pos (suc j)) < 8
-apart d e i j p q n = subst (λ (x : ℤ). natAbs x < 8) (sym (shift d e (pos indexOffset)) ∙ (ap (λ (x : ℤ). x -ℤ (e +ℤ pos indexOffset)) (up d i p) ∙ ap (λ (x : ℤ). pos i -ℤ x) (up e (suc j) q))) n
+apart d e i j p q n = subst (λ (x : ℤ). natAbs x < 8) (sym (shift d e (pos indexOffset)) ∙ (ap (λ (x : ℤ). x -ℤ (e +ℤ pos indexOffset)) (index-up d i p) ∙ ap (λ (x : ℤ). pos i -ℤ x) (index-up e (suc j) q))) n
 
 same-mark : (d e : ℤ) (i j : ℕ) → 1 ≤ j → d ≡ pos i -ℤ pos indexOffset → e ≡ pos j -ℤ pos indexOffset → natAbs (d -ℤ e) < 8 → mark e ≡ mark d → d ≡ e
 same-mark d e i zero l p q n m = let v : ⊥ = omega arith in absurd v

@@ -33,9 +33,13 @@ words d t = record { day = d; time = t }
 unfoldable pub splitOf : ℤ → ℕ → SplitAnswer
 splitOf d m = refusedOr NoSplit (instantCases d m) (Split (words d (timeWord d m)))
 
--- the refusals of a day word d and a time word t: of the instant, and 10 if the marks differ
+-- the refusal of words whose marks differ
+abbrev pub markCases : ℤ → ℕ → List Case
+markCases d t = case 10 (not (eqb (t / markUnit) (mark d))) ∷ []
+
+-- the refusals of a day word d and a time word t: of the instant, and of the marks
 abbrev pub joinCases : ℤ → ℕ → List Case
-joinCases d t = instantCases d (t % markUnit) ++ (case 10 (not (eqb (t / markUnit) (mark d))) ∷ [])
+joinCases d t = instantCases d (t % markUnit) ++ markCases d t
 
 -- the instant of the two words, or its refusal
 unfoldable pub joinOf : ℤ → ℕ → JoinAnswer

@@ -4,12 +4,12 @@ use Prim.Native.Nat.{ℕ, _≤_, _<_}
 use mathlib.Core.Path.{_≡_, refl, ap, sym, _∙_}
 use mathlib.Core.Bool.{Bool, true, false, cond, _||_}
 use native.Mathlib.Omega.{arith}
-use lib.Dec.{leb}
+use lib.Dec.{leb, ltb}
 use lib.IntN.{ℤ, pos, _-ℤ_, natAbs}
 use lib.Signed.{ltZ}
-use borrow.Author.Tests.{leb-false, lt-leb}
+use borrow.Author.Tests.{leb-false, lt-leb, ltb-false}
 use Rattle.instants.proofs.Impossible.{impossible}
-use Rattle.instants.proofs.FirstRefusal.{NoneApplies, handed-on, none-answered, answered-none, refused-alike}
+use Rattle.instants.proofs.FirstRefusal.{NoneApplies, handed-on, none-answered, answered-none, refused-alike, first-none}
 use Rattle.instants.specs.declared.IndexAnswer.the-variants.{AtIndex, NoIndex}
 use Rattle.instants.specs.declared.Acceptance.the-variants.{Accepted, NotAccepted}
 use Rattle.instants.specs.Limits.{firstDay, lastDay, dayMicros, indexOffset}
@@ -39,6 +39,10 @@ pub record HasIndex (z : ℤ) (n : ℕ) : Type 0 where
 pub both-false : (a b : Bool) → a || b ≡ false → (a ≡ false) × (b ≡ false)
 both-false false b e = (refl, e)
 both-false true b e = (e, impossible (cc))
+
+-- neither end of a range is passed
+pub between : (x low high : ℕ) → ltb x low || ltb high x ≡ false → (low ≤ x) × (x ≤ high)
+between x low high e = let p = both-false (ltb x low) (ltb high x) e in (ltb-false x low (p .0), ltb-false high x (p .1))
 
 range : (z : ℤ) → outside z ≡ false → DayInRange z
 unfolding outside
@@ -117,3 +121,7 @@ module _ {A : Type 0} (refuse : ℕ → A) (answer : A) (d : ℤ) (m : ℕ) wher
 pub acceptance-refusal : (d : ℤ) (m : ℕ) → acceptanceRefusal (acceptance d m) ≡ firstRefusal (instantCases d m)
 unfolding acceptance
 acceptance-refusal d m = handed-on NotAccepted acceptanceRefusal (λ n. refl) (instantCases d m) _
+
+-- and one with no refusal is accepted
+pub unrefused-accepted : (d : ℤ) (m : ℕ) → acceptanceRefusal (acceptance d m) ≡ 0 → acceptance d m ≡ Accepted (dayIndex d)
+unrefused-accepted d m e = accepted-none d m (first-none (instantCases d m) tt (sym (acceptance-refusal d m) ∙ e))

@@ -1,8 +1,9 @@
--- Laws of the refusals in their order. Assumes nothing.
+-- Laws of the refusals in their order, by induction on the list: a case applies, and then its refusal is the answer on both sides, or it does not, and
+-- the rest of the list decides. Assumes nothing.
 use Prim.Native.Nat.{ℕ}
 use mathlib.Core.Path.{_≡_, refl, ap}
 use mathlib.Core.Bool.{Bool, true, false, cond, _&&_}
-use mathlib.Core.List.{List, [], _∷_}
+use mathlib.Core.List.{List, [], _∷_, _++_}
 use native.Mathlib.Omega.{arith}
 use lib.Dec.{T, ltb}
 use borrow.Author.Tests.{ltb-true}
@@ -12,6 +13,11 @@ use Rattle.instants.specs.Refusals.{Case, refusedOr, firstRefusal}
 abbrev pub NoneApplies : List Case → Type 0
 NoneApplies [] = Unit {0}
 NoneApplies (c ∷ cs) = (c .applies ≡ false) × NoneApplies cs
+
+-- of two lists one behind the other, no case of either applies
+pub none-both : (cs ds : List Case) → NoneApplies (cs ++ ds) → NoneApplies cs × NoneApplies ds
+none-both [] ds h = (tt, h)
+none-both (c ∷ cs) ds h = let r = none-both cs ds (h .1) in ((h .0, r .0), r .1)
 
 -- The case analysis behind the laws below that speak of answers: what holds of two answers at every refusal, and where no case applies.
 pub in-both : {A B : Type 0} (P : A → B → Type 0) (refuse : ℕ → A) (refuse′ : ℕ → B) (cs : List Case) (a : A) (b : B)
@@ -57,6 +63,7 @@ abbrev pub numbered : List Case → Bool
 numbered [] = true
 numbered (c ∷ cs) = ltb 0 (c .number) && numbered cs
 
+-- a first refusal of 0, where no case has that number, says that none applies
 pub first-none : (cs : List Case) → T (numbered cs) → firstRefusal cs ≡ 0 → NoneApplies cs
 first-none [] h e = tt
 first-none (c ∷ cs) h e = by (c .applies) refl (ltb 0 (c .number)) refl h e (first-none cs)

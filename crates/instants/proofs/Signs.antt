@@ -1,13 +1,13 @@
 -- Day numbers as integers, and their indices as natural numbers: a day number that passes both tests of the range is not negative, so it is its
 -- index less the offset, and in the code's 64 bits the offset can be added and taken away. Assumes nothing.
 use Prim.Native.Nat.{ℕ, _-_, _+_, _^_, _<_, _≤_, suc}
-use mathlib.Core.Path.{_≡_, refl, ap}
+use mathlib.Core.Path.{_≡_, refl, ap, _∙_}
 use mathlib.Core.Bool.{Bool, true, false, cond, true≢false}
 use native.Mathlib.Omega.{arith}
 use lib.Signed.{ltZ}
 use borrow.Author.Tests.{ltb-false, le-ltb}
 use lib.Dec.{ltb}
-use lib.IntN.{ℤ, pos, negsuc, subℕ, _+ℤ_, _-ℤ_}
+use lib.IntN.{ℤ, pos, negsuc, subℕ, _+ℤ_, _-ℤ_, -ℤ-+ℤ-cancel}
 use mir.Syntax.{w64}
 use mir.Val.{SFits, toZ, ofZ}
 use mir.Facts.{toZ-ofZ}
@@ -20,6 +20,14 @@ by false a b h k = record { sfits = omega arith }
 
 pub sub-fits : (a b : ℕ) → a < 2 ^ 62 → b < 2 ^ 62 → SFits w64 (subℕ a b)
 sub-fits a b = by (ltb a b) a b
+
+-- a day number with the offset is its index
+pub index-up : (d : ℤ) (i : ℕ) → d ≡ pos i -ℤ pos indexOffset → d +ℤ pos indexOffset ≡ pos i
+index-up d i e = ap (λ (x : ℤ). x +ℤ pos indexOffset) e ∙ -ℤ-+ℤ-cancel (pos i) (pos indexOffset)
+
+-- from the offset on, the day number of an index is a natural number
+pub day-natural : (i : ℕ) → indexOffset ≤ i → pos i -ℤ pos indexOffset ≡ pos (i - indexOffset)
+day-natural i h = simp (le-ltb i indexOffset h)
 
 -- the indices of the first and the last day
 abbrev pub firstIndex : ℕ

@@ -43,7 +43,7 @@ pub enum Acceptance {
     NotAccepted(u32),
 }
 
-// A day number's index from 1600-01-01. The one place where a day number's sign is looked at.
+// A day number's index from 1600-01-01, or that it is not in range: from here on a day is a natural number.
 pub fn day_index(day: i64) -> IndexAnswer
     ensures { λ r. ⌜ r ≡ indexAnswer day ⌝ }
 {

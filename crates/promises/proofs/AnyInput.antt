@@ -34,9 +34,9 @@ use Rattle.nutation.specs.declared.NutationAnswer.the-variants as nutationCase
 use Rattle.record.specs.Records.{writeCases, writeRefusal, readCases, readOf, recordDayOf, recordMicrosOf, recordUt1Of, recordLodOf, recordRateOf, readRefusalOf}
 use Rattle.record.specs.declared.ReadAnswer.{ReadAnswer}
 use Rattle.record.specs.declared.ReadAnswer.the-variants.{IsRecord, NoRecord}
-use Rattle.record.proofs.Kept.{write-keeps}
+use Rattle.record.proofs.Kept as kept
 use Rattle.run.specs.Run.{runCases, runRefusal}
-use Rattle.run.proofs.Records.{refused-unchanged}
+use Rattle.run.proofs.Records as records
 use Rattle.promises.specs.AnyInput.{ZeroBeside, AnyInputIsAnswered}
 
 -- ---- the refusals
@@ -155,9 +155,9 @@ any-input-is-answered = record {
   offsets = offsets;
   offsets-zero = nutation-zero;
   record-write = write;
-  record-write-keeps = λ d m ut1 lod rate old. write-keeps d m ut1 lod rate old .all;
+  record-write-keeps = kept.refused-unchanged;
   record-read = read;
   record-read-zero = read-zero;
   run-write = run;
-  run-write-keeps = refused-unchanged;
+  run-write-keeps = records.refused-unchanged;
 }

@@ -8,7 +8,8 @@ use Rattle.record.proofs.Again.{written-again}
 use Rattle.record.proofs.Kept.{write-keeps, read-front}
 use Rattle.record.proofs.Changed.{changed-byte}
 use Rattle.run.proofs.Records.{run-keeps}
-use Rattle.run.proofs.ReadBack.{later-by, record-place}
+use Rattle.run.proofs.ReadBack.{record-place}
+use Rattle.instants.proofs.LaterInstants.{later-by}
 use Rattle.promises.specs.Exactness.{Exactness}
 
 -- PROMISE. Demand 2: exactness.

@@ -11,7 +11,7 @@ use Rattle.instants.specs.declared.Instant.{Instant}
 use Rattle.instants.specs.Refusals.{refusedOr}
 use Rattle.instants.specs.Instants.{instant}
 use Rattle.instants.proofs.Impossible.{impossible}
-use Rattle.instants.proofs.FirstRefusal.{NoneApplies, answered-none, none-answered, refused-alike, first-none}
+use Rattle.instants.proofs.FirstRefusal.{NoneApplies, none-both, answered-none, none-answered, refused-alike, first-none}
 use Rattle.clock.specs.declared.JoinAnswer.the-variants.{Joined, NoJoin}
 use Rattle.clock.specs.Words.{markUnit, joinCases, joinOf}
 use Rattle.record.specs.declared.Record.{Record}
@@ -59,12 +59,12 @@ was-read s r e =
     let d = pos (fieldAt s dayField) in
     let t = fieldAt s timeField in
     let q = answered-none NoRecord (readCases s) (IsRecord (recordOf (instant d (t % markUnit)) s)) (IsRecord r) (λ n p. impossible (cc)) e in
-    let n = q .0 in
+    let n = none-both (formCases s) (joinCases d t) (q .0) in
     let g : IsRecord (recordOf (instant d (t % markUnit)) s) ≡ IsRecord r = q .1 in
     record {
-      form = none-formed s (n .0, (n .1 .0, (n .1 .1 .0, (n .1 .1 .1 .0, (n .1 .1 .1 .1 .0, tt)))));
+      form = none-formed s (n .0);
       instant = instant d (t % markUnit);
-      join = none-answered NoJoin (joinCases d t) _ (n .1 .1 .1 .1 .1);
+      join = none-answered NoJoin (joinCases d t) _ (n .1);
       is = cc;
     }
 

@@ -4,7 +4,6 @@ use mathlib.Core.Path.{_≡_, refl, ap, ap₂, _∙_, sym}
 use mathlib.Core.List.{List, _++_}
 use native.Mathlib.Omega.{arith}
 use native.Mathlib.Nat.{mod-eq-of-lt}
-use borrow.Author.Tests.{le-ltb}
 use lib.IntN.{ℤ, pos, negsuc}
 use lib.ListN.{length, take, drop}
 use mir.Syntax.{w32}
@@ -14,6 +13,7 @@ use Rattle.bigendian.proofs.Numbers.{number-bytes, sum-next, sum-take}
 use Rattle.bigendian.proofs.Signs.{FitsBytes, read-signed}
 use Rattle.bigendian.proofs.Buffers.{front-is}
 use Rattle.instants.specs.Instants.{instant, dayIndex, IsAccepted}
+use Rattle.instants.proofs.Signs.{day-natural}
 use Rattle.instants.proofs.Accepted.{AcceptedAt, accepted-at}
 use Rattle.clock.specs.declared.ClockWords.{ClockWords}
 use Rattle.clock.specs.Words.{mark, timeWord, words}
@@ -77,7 +77,7 @@ module _ (w : ClockWords) (ut1 lod rate : ℤ) (rest : List ℕ) where
 
 -- an accepted day number is not negative, so its bits are itself
 day-bits : (d : ℤ) (m i : ℕ) → AcceptedAt d m i → d ≡ pos (i - indexOffset)
-day-bits d m i a = a .is ∙ simp (le-ltb i indexOffset (omega (arith, a .low)))
+day-bits d m i a = a .is ∙ day-natural i (omega (arith, a .low))
 
 mark-small : (d : ℤ) → mark d < 8
 mark-small (pos n) = omega arith

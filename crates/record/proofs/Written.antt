@@ -64,7 +64,7 @@ pub thirty : (w : ClockWords) (ut1 lod rate : ℤ) (l : List ℕ) → l ≡ reco
 unfolding recordBytes
 thirty w ut1 lod rate l q = ap (λ (k : List ℕ). length (take recordLength k)) q
 
--- the day word of an accepted instant, -indexOffset and later, fits 32 bits
+-- the day number of an index below 2^31, -indexOffset or later, fits 32 bits
 day-word : (i : ℕ) → i < 2 ^ 31 → SFits w32 (pos i -ℤ pos indexOffset)
 day-word i h = by (ltb i indexOffset) refl
   where

@@ -22,9 +22,13 @@ recordWith d m ut1 lod rate = record { day = d; micros = m; ut1 = ut1; lod = lod
 
 -- ---- writing
 
--- the refusals of a record of the instant d, m in n bytes: of the instant, and 12
+-- the refusal of a buffer of n bytes
+abbrev pub roomCases : ℕ → List Case
+roomCases n = case 12 (ltb n recordLength) ∷ []
+
+-- the refusals of a record of the instant d, m in n bytes: of the instant, and of the buffer
 abbrev pub writeCases : ℤ → ℕ → ℕ → List Case
-writeCases d m n = instantCases d m ++ (case 12 (ltb n recordLength) ∷ [])
+writeCases d m n = instantCases d m ++ roomCases n
 
 -- the first refusal of writing, or 0
 unfoldable pub writeRefusal : ℤ → ℕ → ℕ → ℕ
@@ -40,8 +44,8 @@ written d m ut1 lod rate old =
 -- the refusals of the bytes' form
 abbrev pub formCases : List ℕ → List Case
 formCases s =
-    case 12 (ltb (length s) recordLength)
-    ∷ case 14 (not (eqb (fieldAt s versionField) version))
+    roomCases (length s)
+    ++ case 14 (not (eqb (fieldAt s versionField) version))
     ∷ case 13 (not (eqb (fieldAt s lengthField) recordLength))
     ∷ case 15 (not (eqb (fieldAt s zeroField) 0))
     ∷ case 16 (not (eqb (wordSum s 15 % 65536) 0))

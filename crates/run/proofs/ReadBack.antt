@@ -1,20 +1,17 @@
 -- Each record of a run stands at its place and reads back: the run's bytes are those of the k records before, thirty each, then record k, then the rest,
 -- and record k is one that was written at an accepted instant. Assumes nothing.
-use Prim.Native.Nat.{ℕ, zero, suc, _+_, _*_, _/_, _%_, _<_, _≤_}
+use Prim.Native.Nat.{ℕ, zero, suc, _*_, _<_, _≤_}
 use mathlib.Core.Path.{_≡_, refl, ap, _∙_}
 use mathlib.Core.List.{List, [], _++_, append-assoc, append-nil}
 use native.Mathlib.Decide.{decLt}
 use native.Mathlib.Nat.{not-suc-le-zero}
 use native.Mathlib.Omega.{arith}
-use lib.IntN.{ℤ, pos, _+ℤ_, _-ℤ_, _*ℤ_}
+use lib.IntN.{ℤ}
 use lib.ListN.{length, take, drop}
 use lib.Seq.{take-at, drop-at}
 use borrow.Author.Tests.{le-ltb}
 use Rattle.algebra.specs.Integers.{+_}
-use Rattle.algebra.proofs.Ring.{end, _▸_, ring, quote}
 use Rattle.bigendian.proofs.Buffers.{front-more}
-use Rattle.instants.specs.Moments.{sinceJ2000}
-use Rattle.instants.specs.Limits.{dayMicros}
 use Rattle.instants.specs.Instants.{outside, dayIndex, IsAccepted, laterDay, laterMicros}
 use Rattle.record.specs.Format.{recordLength}
 use Rattle.record.proofs.Round.{read-back}
@@ -27,27 +24,6 @@ use Rattle.run.specs.Run.{runRefusal, recordAt, runBytes, runWritten}
 use Rattle.run.specs.ReadBack.{ReadsAt}
 use Rattle.run.proofs.Refusals.{run-accepted}
 use Rattle.run.proofs.Records.{thirty, run-length, run-written}
-
--- ---- the instants
-
--- PROMISE. The instant t microseconds after another is t microseconds later, and its microseconds are those of a day.
-pub later-by : (d : ℤ) (m t : ℕ) → (sinceJ2000 (laterDay d m t) (laterMicros m t) ≡ sinceJ2000 d m +ℤ + t) × (laterMicros m t < dayMicros)
-later-by d m t = (moved d (+ ((m + t) / dayMicros)) (+ 51544) (+ dayMicros) (+ laterMicros m t) (+ 43_200_000_000) (+ m) (+ t) sum, omega arith)
-  where
-    whole : (x : ℕ) → x / dayMicros * dayMicros + x % dayMicros ≡ x
-    whole x = omega arith
-
-    sum : + ((m + t) / dayMicros) *ℤ + dayMicros +ℤ + laterMicros m t ≡ + m +ℤ + t
-    sum = ap pos (whole (m + t))
-
-    left : (d q c n r h : ℤ) → (d +ℤ q -ℤ c) *ℤ n +ℤ r -ℤ h ≡ (d -ℤ c) *ℤ n -ℤ h +ℤ (q *ℤ n +ℤ r)
-    left d q c n r h = ring (d ▸ q ▸ c ▸ n ▸ r ▸ h ▸ end) (search quote depth 13) tt
-
-    right : (d c n h m t : ℤ) → (d -ℤ c) *ℤ n -ℤ h +ℤ (m +ℤ t) ≡ (d -ℤ c) *ℤ n +ℤ m -ℤ h +ℤ t
-    right d c n h m t = ring (d ▸ c ▸ n ▸ h ▸ m ▸ t ▸ end) (search quote depth 13) tt
-
-    moved : (d q c n r h m t : ℤ) → q *ℤ n +ℤ r ≡ m +ℤ t → (d +ℤ q -ℤ c) *ℤ n +ℤ r -ℤ h ≡ (d -ℤ c) *ℤ n +ℤ m -ℤ h +ℤ t
-    moved d q c n r h m t e = left d q c n r h ∙ (ap (λ (z : ℤ). (d -ℤ c) *ℤ n -ℤ h +ℤ z) e ∙ right d c n h m t)
 
 -- ---- the place of a record
 

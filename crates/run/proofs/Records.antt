@@ -1,5 +1,5 @@
--- The records of a run: what one record's call writes, the records one behind the other, and the buffer after them and between them.
--- Assumes nothing.
+-- The records of a run: what one record's call writes, the records one behind the other, and the buffer after them and between them. Each record is
+-- thirty bytes, so k of them end where record k begins, and a call that is lent the rest adds one (front-more). Assumes nothing.
 use Prim.Native.Nat.{ℕ, zero, suc, _+_, _-_, _*_, _≤_, _<_}
 use mathlib.Core.Path.{_≡_, refl, ap, sym, _∙_}
 use mathlib.Core.List.{List, [], _++_, append-nil}
@@ -10,17 +10,17 @@ use lib.ListN.{length, take, drop, length-append, length-drop}
 use lib.Seq.{take-all, drop-length}
 use borrow.Author.Tests.{ltb-false}
 use Rattle.bigendian.specs.Buffers.{atFront}
-use Rattle.bigendian.proofs.Buffers.{front-length, front-take, front-behind, front-more}
+use Rattle.bigendian.proofs.Buffers.{Keeps, kept, front-keeps, front-length, front-take, front-behind, front-more}
 use Rattle.instants.specs.Instants.{instantCases, IsAccepted, laterDay, laterMicros}
 use Rattle.instants.proofs.Impossible.{impossible}
-use Rattle.instants.proofs.FirstRefusal.{in-each, refused-alike, none-answered, refused-first, first-none}
+use Rattle.instants.proofs.FirstRefusal.{none-both, in-each, refused-alike, none-answered, refused-first, first-none}
 use Rattle.record.specs.Format.{recordLength}
 use Rattle.record.specs.Records.{written}
 use Rattle.record.proofs.Written.{written-is, record-length}
 use Rattle.zonal.specs.declared.Corrections.{Corrections}
 use Rattle.zonal.specs.declared.ZonalAnswer.the-variants.{Zonal, NoZonal}
 use Rattle.zonal.specs.Ours.{zonalOf}
-use Rattle.run.specs.Run.{runCases, runRefusal, recordAt, runBytes, runWritten}
+use Rattle.run.specs.Run.{endCases, runCases, runRefusal, recordAt, runBytes, runWritten}
 use Rattle.run.specs.Inner.{writtenAt}
 
 -- the record of an accepted instant, written at the front of a buffer with room for it
@@ -65,21 +65,14 @@ pub run-written : (d : ℤ) (m count step : ℕ) (old : List ℕ) → runRefusal
 unfolding runRefusal runWritten
 run-written d m count step old e = let cs = runCases d m count step (length old) in none-answered (λ _. old) cs _ (first-none cs tt e)
 
--- what a run of count records leaves of the buffer
-pub record Keeps (count : ℕ) (old new : List ℕ) : Type 0 where
-  pub size : length new ≡ length old
-  pub behind : drop (recordLength * count) new ≡ drop (recordLength * count) old
-
 -- PROMISE. A run leaves the buffer as long as it is, and every byte behind its records as it was.
-pub run-keeps : (d : ℤ) (m count step : ℕ) (old : List ℕ) → Keeps count old (runWritten d m count step old)
+pub run-keeps : (d : ℤ) (m count step : ℕ) (old : List ℕ) → Keeps (recordLength * count) old (runWritten d m count step old)
 unfolding runWritten
 run-keeps d m count step old =
-    let l : length (runBytes d m step count) ≡ recordLength * count = run-length d m step count in
-    in-each (λ _. old) (Keeps count old) (runCases d m count step (length old)) _ (λ n. record { size = refl; behind = refl })
-    (λ h. record {
-      size = front-length (runBytes d m step count) old (omega (arith, l, ltb-false (length old) (recordLength * count) (h .1 .1 .1 .1 .1 .0)));
-      behind = front-behind (runBytes d m step count) old (recordLength * count) l;
-    })
+    in-each (λ _. old) (Keeps (recordLength * count) old) (runCases d m count step (length old)) _ (λ n. kept _ old)
+    (λ h.
+    let e = none-both (instantCases d m) (endCases d m count step (length old)) (h .1 .1) .1 in
+    front-keeps (runBytes d m step count) old _ (run-length d m step count) (ltb-false (length old) (recordLength * count) (e .1 .0)))
 
 -- What stands in the buffer when k of count records have been written: these at its front, and the next one's place is `at`.
 pub record Filled (d : ℤ) (m count step : ℕ) (old s : List ℕ) (k at : ℕ) : Type 0 where

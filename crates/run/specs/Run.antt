@@ -26,16 +26,13 @@ badCount count = ltb count 1 || ltb mostRecords count
 abbrev pub badStep : ℕ → Bool
 badStep step = ltb step 1 || ltb dayMicros step
 
--- the refusals of a run from the instant d, m into a buffer of n bytes: 17, 18, those of the start, 8 for a last instant past the last day,
--- count - 1 steps after the start, and 12
+-- the refusals behind those of the start: a last instant past the last day, count - 1 steps after the start, and a buffer of n bytes
+abbrev pub endCases : ℤ → ℕ → (count step n : ℕ) → List Case
+endCases d m count step n = case 8 (ltZ lastDay (laterDay d m ((count - 1) * step))) ∷ case 12 (ltb n (recordLength * count)) ∷ []
+
+-- the refusals of a run from the instant d, m into a buffer of n bytes
 abbrev pub runCases : ℤ → ℕ → (count step n : ℕ) → List Case
-runCases d m count step n =
-    case 17 (badCount count)
-    ∷ case 18 (badStep step)
-    ∷ instantCases d m
-    ++ case 8 (ltZ lastDay (laterDay d m ((count - 1) * step)))
-    ∷ case 12 (ltb n (recordLength * count))
-    ∷ []
+runCases d m count step n = case 17 (badCount count) ∷ case 18 (badStep step) ∷ instantCases d m ++ endCases d m count step n
 
 -- the first refusal of a run, or 0
 unfoldable pub runRefusal : ℤ → ℕ → (count step n : ℕ) → ℕ

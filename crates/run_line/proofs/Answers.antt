@@ -10,7 +10,7 @@ use Rattle.calendar.specs.declared.DayAnswer.the-variants.{Day, NoDay}
 use Rattle.instants.specs.Refusals.{refusedOr}
 use Rattle.calendar.specs.Dates.{dateCases, dayOf}
 use Rattle.instants.proofs.Impossible.{impossible}
-use Rattle.instants.proofs.FirstRefusal.{refused-alike, answered-none, none-answered}
+use Rattle.instants.proofs.FirstRefusal.{none-both, refused-alike, answered-none, none-answered}
 use Rattle.line.specs.declared.Line.{Line}
 use Rattle.line.specs.declared.LineAnswer.{LineAnswer}
 use Rattle.line.specs.declared.LineAnswer.the-variants.{Parsed, BadLine}
@@ -65,14 +65,15 @@ is-run s n k e = by (lineOf s) refl e
     by BadLine p e = impossible (cc)
     by (Parsed l) p e =
         let r = answered-none NoRun (lineCases l n) (Run (recordLength * l .count)) (Run k) (λ n p. impossible (cc)) e in
+        let q = none-both (dateCases (l .year) (l .month) (l .day)) (dayRunCases (lineDay l) (l .count) (l .step) n) (r .0) in
         let g : Run (recordLength * l .count) ≡ Run k = r .1 in
         let f : recordLength * l .count ≡ k = cc in
         record {
           line = l;
           day = lineDay l;
           is-line = p;
-          is-day = none-answered NoDay (dateCases (l .year) (l .month) (l .day)) (Day (lineDay l)) (r .0 .0, (r .0 .1 .0, (r .0 .1 .1 .0, tt)));
-          none = none-answered (λ k. k) (dayRunCases (lineDay l) (l .count) (l .step) n) 0 (r .0 .1 .1 .1);
+          is-day = none-answered NoDay (dateCases (l .year) (l .month) (l .day)) (Day (lineDay l)) (q .0);
+          none = none-answered (λ k. k) (dayRunCases (lineDay l) (l .count) (l .step) n) 0 (q .1);
           size = sym f;
         }
 

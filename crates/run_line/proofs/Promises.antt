@@ -24,7 +24,8 @@ use Rattle.line.proofs.Newline.{after-newline}
 use Rattle.record.specs.Format.{recordLength}
 use Rattle.run.specs.Run.{mostRecords, badCount, badStep, runBytes}
 use Rattle.instants.specs.Instants.{laterDay}
-use Rattle.run.proofs.Refusals.{not-refused, between}
+use Rattle.instants.proofs.Accepted.{between}
+use Rattle.run.proofs.Refusals.{not-refused}
 use Rattle.run.proofs.Records.{run-length, run-written}
 use Rattle.run_line.specs.declared.Outcome.{Outcome}
 use Rattle.run_line.specs.declared.Outcome.the-variants.{Run, NoRun, Bad}

@@ -5,15 +5,15 @@ use Prim.Native.Nat.{ℕ}
 use lib.Dec.{T}
 use lib.IntN.{ℤ, pos}
 use lib.Ieee.{rem, lt, eq, ofInt}
-use Rattle.instants.specs.Instants.{IsAccepted}
+use Rattle.instants.specs.Instants.{instantCases, IsAccepted}
 use Rattle.instants.proofs.Impossible.{impossible}
-use Rattle.instants.proofs.FirstRefusal.{NoneApplies, in-each}
+use Rattle.instants.proofs.FirstRefusal.{NoneApplies, none-both, in-each}
 use Rattle.instants.proofs.Accepted.{accepted-at, accepted-none}
 use Rattle.tide.specs.declared.Doodson.{Doodson}
 use Rattle.tide.specs.declared.TideAnswer.{TideAnswer}
 use Rattle.tide.specs.declared.TideAnswer.the-variants.{Tide, NoTide}
 use Rattle.tide.specs.Binary64.{zero64}
-use Rattle.tide.specs.Tidal.{argumentsAt, sumOfProducts, turn, raised, settled, reduced, constituentOf, allInRange, tideCases, tideOf, frequencyOf, phaseOf, doodson}
+use Rattle.tide.specs.Tidal.{argumentsAt, sumOfProducts, turn, raised, settled, reduced, constituentOf, allInRange, rangeCases, tideCases, tideOf, frequencyOf, phaseOf, doodson}
 use Rattle.tide.specs.Claims.{Finite, InTurn}
 use Rattle.tide.proofs.Bounded.{bound-finite}
 use Rattle.tide.proofs.Sums.{bounds-at, sum-bound, zero-sum}
@@ -42,8 +42,9 @@ frequency-finite d m k = in-each NoTide (λ (x : TideAnswer). Finite (frequencyO
 
     given : NoneApplies (tideCases d m k) → Finite (constituentOf (argumentsAt d m) k .frequency)
     given h =
-        let b = bounds-at d m (accepted-none d m (h .0, (h .1 .0, tt))) in
-        bound-finite (sum-bound k (right (allInRange k) (h .1 .1 .0)) (b .dd1) (b .dd2) (b .dd3) (b .dd4) (b .dd5) (b .dd6))
+        let n = none-both (instantCases d m) (rangeCases k) h in
+        let b = bounds-at d m (accepted-none d m (n .0)) in
+        bound-finite (sum-bound k (right (allInRange k) (n .1 .0)) (b .dd1) (b .dd2) (b .dd3) (b .dd4) (b .dd5) (b .dd6))
 
 -- ---- six zeros
 zero-reduced : reduced zero64 ≡ zero64

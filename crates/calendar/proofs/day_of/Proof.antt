@@ -3,11 +3,10 @@
 use Prim.Native.Nat.{_+_, _-_, _<_, _≤_}
 use mathlib.Core.Path.{_≡_, _∙_, ap}
 use native.Mathlib.Omega.{arith}
-use borrow.Author.Tests.{ltb-false}
 use borrow.Author.Needs.{needs}
 use mir.Facts.{toZ-ofZ}
 use Rattle.instants.specs.Instants.{dayAtIndex}
-use Rattle.instants.proofs.Accepted.{both-false}
+use Rattle.instants.proofs.Accepted.{between}
 use Rattle.calendar.specs.declared.DayAnswer.the-variants.{Day}
 use Rattle.calendar.specs.Limits.{firstYear, lastYear}
 use Rattle.calendar.specs.Dates.{date, dayOf, dateIndex}
@@ -25,13 +24,13 @@ returns-2 c = simp (c .before .if1 .left, c .if2 .taken)
 -- ---- what the tests say where they are passed
 
 year-in : (c : tie.Else1) → (firstYear ≤ c .before .args .year) × (c .before .args .year ≤ lastYear)
-year-in c = let p = both-false _ _ (c .if1 .left) in (ltb-false _ _ (p .0), ltb-false _ _ (p .1))
+year-in c = between _ firstYear lastYear (c .if1 .left)
 
 abbrev entry : tie.Else2 → tie.Start
 entry c = c .before .before
 
 month-in : (c : tie.Else2) → (1 ≤ entry c .args .month) × (entry c .args .month ≤ 12)
-month-in c = let p = both-false _ _ (c .if2 .left) in (ltb-false _ _ (p .0), ltb-false _ _ (p .1))
+month-in c = between _ 1 12 (c .if2 .left)
 
 -- past the month's test, from past the day's
 abbrev month-passed : tie.Else3 → tie.Else2
@@ -39,9 +38,8 @@ month-passed c = c .before .before
 
 day-in : (c : tie.Else3) → (1 ≤ entry (month-passed c) .args .day) × (entry (month-passed c) .args .day < 32)
 day-in c =
-    let p = both-false _ _ (c .if3 .left) in
-    let l : entry (month-passed c) .args .day ≤ c .before .month-length .result = ltb-false _ _ (p .1) in
-    (ltb-false _ _ (p .0), omega (arith, l, c .before .month-length .ensures .1))
+    let p = between _ 1 _ (c .if3 .left) in
+    (p .0, omega (arith, p .1, c .before .month-length .ensures .1))
 
 -- past the day's test, from where all numbers are there
 abbrev passed : tie.After-before2 → tie.Else3

@@ -2,8 +2,9 @@
 -- those before it have left open. Assumes nothing.
 use Prim.Native.Nat.{ℕ, _-_, _*_, _^_, _<_}
 use native.Mathlib.Omega.{arith}
-use mathlib.Core.Path.{_≡_, refl, _∙_, ap, sym}
-use mathlib.Core.Bool.{Bool, true, false, cond}
+use mathlib.Core.Path.{_≡_, _∙_, ap, sym}
+use mathlib.Core.Bool.{Bool, true, false}
+use mathlib.Core.List.{[], _∷_}
 use lib.Dec.{ltb}
 use lib.IntN.{ℤ}
 use lib.Signed.{ltZ}
@@ -13,12 +14,15 @@ use mir.Val.{toZ, ofZ}
 use mir.Facts.{toZ-ofZ}
 use Rattle.instants.specs.declared.Instant.{Instant}
 use Rattle.instants.specs.Limits.{lastDay, dayMicros}
+use Rattle.instants.specs.Refusals.{case, firstRefusal}
 use Rattle.instants.specs.Instants.{acceptance, IsAccepted, laterDay, laterMicros}
 use Rattle.instants.specs.Inner.{acceptanceRefusal, laterInstant}
 use Rattle.record.specs.Format.{recordLength}
 use Rattle.run.specs.Run.{mostRecords, runRefusal}
-use Rattle.instants.proofs.LaterInstants.{day-fits}
-use Rattle.run.proofs.Refusals.{none-accepted, later-refusal, Counted, refused-at-start, refused-later, between, steps-few}
+use Rattle.instants.proofs.FirstRefusal.{none-answered, refused-first, first-none}
+use Rattle.instants.proofs.Accepted.{between, unrefused-accepted}
+use Rattle.instants.proofs.LaterInstants.{later-refusal, day-fits}
+use Rattle.run.proofs.Refusals.{Counted, refused-at-start, refused-later, steps-few}
 use borrow.Author.Needs.{needs}
 use Rattle.run.proofs.refusal.Statement.{statement}
 use Rattle.run.proofs.refusal.Tie as tie
@@ -52,12 +56,15 @@ module _ (c : tie.Else3) where
   few = steps-few (o .args .count - 1) (o .args .step) (omega (arith, counted (c .before) .count-most)) (counted (c .before) .step-most)
 
   accepted : IsAccepted (o .args .day) (o .args .micros)
-  accepted = none-accepted _ _ (sym (says (c .before)) ∙ c .if3 .left)
+  accepted = unrefused-accepted _ _ (sym (says (c .before)) ∙ c .if3 .left)
 
 -- after the last instant was looked at
 module _ (c : tie.After-acceptance-refusal2) where
+  abbrev looked : tie.After-later
+  looked = c .before .before .before
+
   abbrev e : tie.Else3
-  e = c .before .before .before .before
+  e = looked .before
 
   abbrev b : tie.Start
   b = o e
@@ -68,32 +75,24 @@ module _ (c : tie.After-acceptance-refusal2) where
   abbrev short : Bool
   short = ltb (b .args .size) (recordLength * b .args .count)
 
-  last : c .acceptance-refusal2 .result ≡ cond past 8 0
+  last : c .acceptance-refusal2 .result ≡ firstRefusal (case 8 past ∷ [])
   last =
       c .acceptance-refusal2 .ensures
       ∙ (ap acceptanceRefusal
       (c .before .accept2 .ensures
-      ∙ (ap (λ (i : Instant). acceptance (toZ w64 (ofZ w64 (i .day))) (i .micros)) (c .before .before .before .later .ensures ∙ ap (λ (z : ℤ). laterInstant z (b .args .micros) (t e)) (toZ-ofZ (b .fits .day)))
+      ∙ (ap (λ (i : Instant). acceptance (toZ w64 (ofZ w64 (i .day))) (i .micros)) (looked .later .ensures ∙ ap (λ (z : ℤ). laterInstant z (b .args .micros) (t e)) (toZ-ofZ (b .fits .day)))
       ∙ ap (λ (z : ℤ). acceptance z (laterMicros (b .args .micros) (t e))) (toZ-ofZ (day-fits (b .args .day) (b .args .micros) (t e) (accepted e) (few e)))))
       ∙ later-refusal (b .args .day) (b .args .micros) (t e) (accepted e))
 
-  rest : runRefusal (b .args .day) (b .args .micros) (b .args .count) (b .args .step) (b .args .size) ≡ cond past 8 (cond short 12 0)
+  rest : runRefusal (b .args .day) (b .args .micros) (b .args .count) (b .args .step) (b .args .size) ≡ firstRefusal (case 8 past ∷ case 12 short ∷ [])
   rest = refused-later _ _ _ _ _ (counted (e .before)) (accepted e)
 
   -- a last instant with a refusal, and one without
-  ended : (c .acceptance-refusal2 .result ≡ 0 → ⊥) → c .acceptance-refusal2 .result ≡ cond past 8 (cond short 12 0)
-  ended h = by past last
-    where
-      by : (p : Bool) → c .acceptance-refusal2 .result ≡ cond p 8 0 → c .acceptance-refusal2 .result ≡ cond p 8 (cond short 12 0)
-      by true q = q
-      by false q = absurd (h q)
+  ended : (c .acceptance-refusal2 .result ≡ 0 → ⊥) → c .acceptance-refusal2 .result ≡ firstRefusal (case 8 past ∷ case 12 short ∷ [])
+  ended h = last ∙ sym (refused-first (λ k. k) (case 8 past ∷ []) _ (λ q. h (last ∙ q)))
 
-  went-on : c .acceptance-refusal2 .result ≡ 0 → _≡_ {A = ℕ} (cond past 8 (cond short 12 0)) (cond short 12 0)
-  went-on h = by past last
-    where
-      by : (p : Bool) → c .acceptance-refusal2 .result ≡ cond p 8 0 → _≡_ {A = ℕ} (cond p 8 (cond short 12 0)) (cond short 12 0)
-      by true q = let v : ⊥ = omega arith in absurd v
-      by false q = refl
+  went-on : c .acceptance-refusal2 .result ≡ 0 → firstRefusal (case 8 past ∷ case 12 short ∷ []) ≡ firstRefusal (case 12 short ∷ [])
+  went-on h = none-answered (λ k. k) (case 8 past ∷ []) _ (first-none (case 8 past ∷ []) tt (sym last ∙ h))
 
 returns : tie.Need-returns
 unfolding runRefusal
@@ -137,13 +136,13 @@ returns-5 : tie.Need-returns-5
 returns-5 c =
     let l : tie.After-acceptance-refusal2 = c .before .before in
     let h : short l ≡ true = lt-ltb _ _ (c .if5 .taken) in
-    sym (rest l ∙ (went-on l (c .before .if4 .left) ∙ ap (λ (x : Bool). cond x 12 0) h))
+    sym (rest l ∙ (went-on l (c .before .if4 .left) ∙ ap (λ (x : Bool). firstRefusal (case 12 x ∷ [])) h))
 
 returns-6 : tie.Need-returns-6
 returns-6 c =
     let l : tie.After-acceptance-refusal2 = c .before .before in
     let h : short l ≡ false = le-ltb _ _ (c .if5 .left) in
-    sym (rest l ∙ (went-on l (c .before .if4 .left) ∙ ap (λ (x : Bool). cond x 12 0) h))
+    sym (rest l ∙ (went-on l (c .before .if4 .left) ∙ ap (λ (x : Bool). firstRefusal (case 12 x ∷ [])) h))
 
 pub refusal-spec : {M : Type 1} → statement M
 refusal-spec =
