@@ -1,4 +1,4 @@
--- The angle of every row of the table, ours against the exact one, on every day from 1600 to 2400: within `angleDistance` units of 2^-41 turn,
+-- The angle of every row of the table, ours against the exact one, on every day from 1600 to 2400: within `rowAngleDistance` units of 2^-41 turn,
 -- but for whole turns. An argument is the difference of its two halves, each near its polynomial (Quartic); a row's angle is off by at most the
 -- sum over its columns of the multiplier's magnitude times the argument's distance. Two computed tests give the distances: an argument's from
 -- its constants, the row's from the table.
@@ -23,8 +23,8 @@ use Rattle.algebra.proofs.Turns.{Turns, turns-of, turns-wide, turns-left, turns
 use Rattle.arguments.specs.declared.Half.{Half}
 use Rattle.arguments.specs.Table.{multipliers}
 use Rattle.instants.specs.Moments.{sinceJ2000, century, moment, latest, since}
-use Rattle.arguments.specs.Exact.{Polynomial, value, F1, F2, F3, F4, F5, turn, turnParts, exactArguments, combination, exactAngle}
-use Rattle.arguments.specs.Ours.{halfAt, up₁, down₁, up₂, down₂, up₃, down₃, up₄, down₄, up₅, down₅, argument, ourArguments, column, columns, ourAngle}
+use Rattle.arguments.specs.Exact.{Polynomial, value, F1, F2, F3, F4, F5, turn, turnParts, exactArguments, combination, exactRowAngle}
+use Rattle.arguments.specs.Ours.{halfAt, up₁, down₁, up₂, down₂, up₃, down₃, up₄, down₄, up₅, down₅, argument, ourArguments, column, columns, ourRowAngle}
 use Rattle.arguments.proofs.Bounds.{argument-less}
 use Rattle.instants.proofs.Moments.{moment-le, moment-is}
 use Rattle.arguments.proofs.Quartic.{argumentError, argument-near}
@@ -33,8 +33,8 @@ use Rattle.arguments.proofs.Quartic.{argumentError, argument-near}
 abbrev pub argumentDistances : List ℕ
 argumentDistances = 66 ∷ 9 ∷ 31 ∷ 20 ∷ 24 ∷ []
 
-abbrev pub angleDistance : ℕ
-angleDistance = 282
+abbrev pub rowAngleDistance : ℕ
+rowAngleDistance = 282
 
 -- ---- one argument
 
@@ -105,7 +105,7 @@ combined {Q} (k ∷ ks) t (more {a} {e} {p} {xs} {es} {ps} b n r) =
 -- ---- the table, tested once
 
 abbrev pub goodRow : List ℤ → Bool
-goodRow ks = fromMinusTwo ks && leb (weight ks argumentDistances) angleDistance
+goodRow ks = fromMinusTwo ks && leb (weight ks argumentDistances) rowAngleDistance
 
 rows-good : T (every goodRow multipliers)
 rows-good = tt
@@ -121,25 +121,25 @@ all-near x b =
     (more (Nat.le-of-lt (argument-less up₄ down₄ x)) (one century turn latest 20 up₄ down₄ F4 x b (lit≤ tt))
     (more (Nat.le-of-lt (argument-less up₅ down₅ x)) (one century turn latest 24 up₅ down₅ F5 x b (lit≤ tt)) none))))
 
--- On the day of index i and day number d, at the microsecond m, our angle of the row r and the exact one are within `angleDistance` units of
+-- On the day of index i and day number d, at the microsecond m, our angle of the row r and the exact one are within `rowAngleDistance` units of
 -- 2^-41 turn, but for whole turns.
-pub angle-near : (d : ℤ) (i m r : ℕ) → d ≡ pos i -ℤ pos indexOffset → i < daysCovered → m < dayMicros → r < length multipliers
-    → Turns (2 ^ 41) turnParts (pos (ourAngle r (moment i m))) (pos (exactAngle r (sinceJ2000 d m))) angleDistance
+pub row-angle-near : (d : ℤ) (i m r : ℕ) → d ≡ pos i -ℤ pos indexOffset → i < daysCovered → m < dayMicros → r < length multipliers
+    → Turns (2 ^ 41) turnParts (pos (ourRowAngle r (moment i m))) (pos (exactRowAngle r (sinceJ2000 d m))) rowAngleDistance
 unfolding since
-angle-near d i m r hd hi hm hr =
-    subst (λ (n : ℤ). Turns (2 ^ 41) turnParts (pos (ourAngle r (moment i m))) (pos (exactAngle r n)) angleDistance) (sym (moment-is d i m hd))
-    (turns-wide (2 ^ 41) turnParts (leb→le (weight ks argumentDistances) angleDistance (t .1))
+row-angle-near d i m r hd hi hm hr =
+    subst (λ (n : ℤ). Turns (2 ^ 41) turnParts (pos (ourRowAngle r (moment i m))) (pos (exactRowAngle r n)) rowAngleDistance) (sym (moment-is d i m hd))
+    (turns-wide (2 ^ 41) turnParts (leb→le (weight ks argumentDistances) rowAngleDistance (t .1))
     (turns-removed (lit≤ tt) (combined ks (t .0) (all-near (moment i m) (moment-le i m hi hm)))))
   where
     ks : List ℤ
     ks = getD multipliers r []
 
-    t : T (fromMinusTwo ks) × T (leb (weight ks argumentDistances) angleDistance)
-    t = and-split (fromMinusTwo ks) (leb (weight ks argumentDistances) angleDistance) (each goodRow multipliers rows-good [] r hr)
+    t : T (fromMinusTwo ks) × T (leb (weight ks argumentDistances) rowAngleDistance)
+    t = and-split (fromMinusTwo ks) (leb (weight ks argumentDistances) rowAngleDistance) (each goodRow multipliers rows-good [] r hr)
 
 -- the angles are below a turn
-pub our-angle-less : (r x : ℕ) → ourAngle r x < 2 ^ 41
+pub our-angle-less : (r x : ℕ) → ourRowAngle r x < 2 ^ 41
 our-angle-less r x = Nat.mod-lt (columns (getD multipliers r []) (ourArguments x)) (lit≤ tt)
 
-pub exact-angle-less : (r : ℕ) (n : ℤ) → exactAngle r n < turnParts
+pub exact-angle-less : (r : ℕ) (n : ℤ) → exactRowAngle r n < turnParts
 exact-angle-less r n = remainder-less (combination (getD multipliers r []) (exactArguments n)) turnParts (lit≤ tt)

@@ -59,5 +59,5 @@ combination (k ∷ ks) [] = + 0
 combination (k ∷ ks) (x ∷ xs) = k *ℤ x +ℤ combination ks xs
 
 -- the angle of the row r, counted from 0, at n: its combination, whole turns removed, over turnParts
-abbrev pub exactAngle : ℕ → ℤ → ℕ
-exactAngle r n = remainder (combination (getD multipliers r []) (exactArguments n)) turnParts
+abbrev pub exactRowAngle : ℕ → ℤ → ℕ
+exactRowAngle r n = remainder (combination (getD multipliers r []) (exactArguments n)) turnParts

@@ -87,5 +87,5 @@ columns (k ∷ ks) [] = 0
 columns (k ∷ ks) (x ∷ xs) = column k x + columns ks xs
 
 -- the angle of the row r, counted from 0, at x
-abbrev pub ourAngle : ℕ → ℕ → ℕ
-ourAngle r x = columns (getD multipliers r []) (ourArguments x) % 2 ^ 41
+abbrev pub ourRowAngle : ℕ → ℕ → ℕ
+ourRowAngle r x = columns (getD multipliers r []) (ourArguments x) % 2 ^ 41

@@ -15,7 +15,7 @@ use Rattle.instants.specs.declared.Acceptance.the-variants.{Accepted, No
 use Rattle.instants.specs.Limits.{firstDay, lastDay, dayMicros, indexOffset}
 use Rattle.instants.specs.Refusals.{refusedOr, firstRefusal}
 use Rattle.instants.specs.Instants.{outside, dayIndex, instantCases, acceptance}
-use Rattle.instants.specs.Inner.{acceptanceRefusal, indexAnswer}
+use Rattle.instants.specs.Inner.{acceptanceRefusalOf, indexAnswer}
 use Rattle.instants.proofs.Signs.{firstIndex, lastIndex, DayInRange, day-in-range}
 
 -- a day number without an index is outside
@@ -118,10 +118,10 @@ module _ {A : Type 0} (refuse : ℕ → A) (answer : A) (d : ℤ) (m : ℕ) wher
   answered-too {i} e = sym (none-answered refuse (instantCases d m) answer (answered-none NotAccepted (instantCases d m) _ (Accepted i) (λ n p. impossible (cc)) e .0))
 
 -- an instant is refused by the first of its cases that applies
-pub acceptance-refusal : (d : ℤ) (m : ℕ) → acceptanceRefusal (acceptance d m) ≡ firstRefusal (instantCases d m)
+pub acceptance-refusal : (d : ℤ) (m : ℕ) → acceptanceRefusalOf (acceptance d m) ≡ firstRefusal (instantCases d m)
 unfolding acceptance
-acceptance-refusal d m = handed-on NotAccepted acceptanceRefusal (λ n. refl) (instantCases d m) _
+acceptance-refusal d m = handed-on NotAccepted acceptanceRefusalOf (λ n. refl) (instantCases d m) _
 
 -- and one with no refusal is accepted
-pub unrefused-accepted : (d : ℤ) (m : ℕ) → acceptanceRefusal (acceptance d m) ≡ 0 → acceptance d m ≡ Accepted (dayIndex d)
+pub unrefused-accepted : (d : ℤ) (m : ℕ) → acceptanceRefusalOf (acceptance d m) ≡ 0 → acceptance d m ≡ Accepted (dayIndex d)
 unrefused-accepted d m e = accepted-none d m (first-none (instantCases d m) tt (sym (acceptance-refusal d m) ∙ e))

@@ -19,7 +19,7 @@ use Rattle.instants.specs.Limits.{firstDay, lastDay, dayMicros, indexOff
 use Rattle.instants.specs.Refusals.{case, firstRefusal}
 use Rattle.instants.specs.Instants.{outside, dayIndex, acceptance, IsAccepted, laterDay, laterMicros}
 use Rattle.instants.specs.Moments.{sinceJ2000}
-use Rattle.instants.specs.Inner.{acceptanceRefusal}
+use Rattle.instants.specs.Inner.{acceptanceRefusalOf}
 use Rattle.instants.proofs.Accepted.{both-false, AcceptedAt, accepted-at, accepted, acceptance-refusal}
 
 -- ---- the order of day numbers, as the tests have it
@@ -68,7 +68,7 @@ module _ (d : ℤ) (m t : ℕ) (a : IsAccepted d m) where
 
 -- an instant after an accepted one is refused by 8 when it is past the last day, and by nothing else
 pub later-refusal : (d : ℤ) (m t : ℕ) → IsAccepted d m
-    → acceptanceRefusal (acceptance (laterDay d m t) (laterMicros m t)) ≡ firstRefusal (case 8 (ltZ lastDay (laterDay d m t)) ∷ [])
+    → acceptanceRefusalOf (acceptance (laterDay d m t) (laterMicros m t)) ≡ firstRefusal (case 8 (ltZ lastDay (laterDay d m t)) ∷ [])
 later-refusal d m t a =
     acceptance-refusal (laterDay d m t) (laterMicros m t)
     ∙ rw (outside-later d _ (accepted-at d m (dayIndex d) a .inside), lt-leb dayMicros (laterMicros m t) (omega arith)) refl

@@ -18,9 +18,9 @@ unfoldable pub indexAnswer : ℤ → IndexAnswer
 indexAnswer z = cond (outside z) NoIndex (AtIndex (dayIndex z))
 
 -- the refusal number of an instant, 0 for an accepted one
-abbrev pub acceptanceRefusal : Acceptance → ℕ
-acceptanceRefusal (Accepted i) = 0
-acceptanceRefusal (NotAccepted n) = n
+abbrev pub acceptanceRefusalOf : Acceptance → ℕ
+acceptanceRefusalOf (Accepted i) = 0
+acceptanceRefusalOf (NotAccepted n) = n
 
 -- the instant t microseconds after the instant d, m
 abbrev pub laterInstant : ℤ → ℕ → ℕ → Instant

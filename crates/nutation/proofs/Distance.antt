@@ -31,9 +31,9 @@ use Rattle.rows.specs.declared.Row.{Row}
 use Rattle.rows.specs.declared.Place.{Place}
 use Rattle.rows.specs.Table.{largest, AcceptedRow, AcceptedTable}
 use Rattle.rows.specs.Places.{place}
-use Rattle.nutation.specs.Exact.{parts, value, XC, XS, YC, YS, angleParts, exactAngle, exactOffset}
+use Rattle.nutation.specs.Exact.{parts, interpolated, XC, XS, YC, YS, angleParts, exactAngle, exactOffset}
 use Rattle.nutation.specs.Ours.{startAngle, angleRate, ourAngle, amplitude, ourXC, ourXS, ourYC, ourYS, offset, ourOffset, offsetsAt, ourOffsets}
-use Rattle.nutation.specs.Claims.{distance, Within, OffsetsNear}
+use Rattle.nutation.specs.Claims.{distance, OffsetWithin, OffsetsNear}
 use Rattle.rows.specs.Inner.{Placed}
 use Rattle.rows.proofs.Places.{placed}
 use Rattle.nutation.proofs.Sizes.{gone-le, angle-less}
@@ -91,7 +91,7 @@ module _ (W D : ℕ) where
       (le-trans (le-of-eq (abs-mul a (pos (2 ^ 10)))) (N.mul-le-mul-right (2 ^ 10) (f .amp-small)))
       (le-trans (le-of-eq (abs-mul U (pos (64 * D)))) (N.mul-le-mul-right (64 * D) (f .wave-small))) (f .wave) (f .amp)
 
-  offset-near : {C c S s cos co sin si : ℤ} → Factors C c cos co → Factors S s sin si → Within (offset C S cos sin) (pos 10 *ℤ (c *ℤ co -ℤ s *ℤ si)) (W * D)
+  offset-near : {C c S s cos co sin si : ℤ} → Factors C c cos co → Factors S s sin si → OffsetWithin (offset C S cos sin) (pos 10 *ℤ (c *ℤ co -ℤ s *ℤ si)) (W * D)
   unfolding offset productError
   offset-near {C} {c} {S} {s} {cos} {co} {sin} {si} f g =
       near-unscale (64 * 2 ^ 41) (near-as (near-trans (near-scale (pos (64 * (W * D))) (near-rounded (2 ^ 40) v (lit≤ tt))) (near-as (near-scale (pos 10) (near-sub (product-near f) (product-near g)))
@@ -138,7 +138,7 @@ module _ (p : Place) (x : ℕ) (at : Placed p x) (h : x ≤ latest) where
   below = remainder-less (negℤ (since x *ℤ pos 100)) angleParts (lit≤ tt)
 
   factors : {U u : ℤ} (f : Row → ℤ) → ((r : Row) → AcceptedRow r → natAbs (f r) ≤ largest) → SineNear U u D angleDistance → natAbs U < 2 ^ 32
-      → Factors (parts p) D (amplitude f p x) (value f p x) U u
+      → Factors (parts p) D (amplitude f p x) (interpolated f p x) U u
   factors f k w s = record { amp = amplitude-near f k p x at; amp-small = value-small f k p x at; wave = w; wave-small = N.le-of-lt s }
 
   cos-near : SineNear (ourCosine (ourAngle x)) (exactCosine angleParts (exactAngle (since x))) D angleDistance
@@ -149,11 +149,11 @@ module _ (p : Place) (x : ℕ) (at : Placed p x) (h : x ≤ latest) where
   unfolding D
   sin-near = sine-near (43021 * (dayMicros / 4)) (exactAngle (since x)) (ourAngle x) angleDistance (lit≤ tt) below (angle-less x) (angle-near x h)
 
-  x-near : Within (ourOffset (ourXC p x) (ourXS p x) x) (exactOffset (XC p x) (XS p x) x) (parts p * D)
+  x-near : OffsetWithin (ourOffset (ourXC p x) (ourXS p x) x) (exactOffset (XC p x) (XS p x) x) (parts p * D)
   unfolding exactOffset D
   x-near = offset-near (parts p) D (factors (λ r. r .xc) (λ r a. a .xc-small) cos-near (cosine-below (ourAngle x))) (factors (λ r. r .xs) (λ r a. a .xs-small) sin-near (sine-below (ourAngle x)))
 
-  y-near : Within (ourOffset (ourYC p x) (ourYS p x) x) (exactOffset (YC p x) (YS p x) x) (parts p * D)
+  y-near : OffsetWithin (ourOffset (ourYC p x) (ourYS p x) x) (exactOffset (YC p x) (YS p x) x) (parts p * D)
   unfolding exactOffset D
   y-near = offset-near (parts p) D (factors (λ r. r .xs) (λ r a. a .xs-small) cos-near (cosine-below (ourAngle x))) (minus-factors (parts p) D (factors (λ r. r .xc) (λ r a. a .xc-small) sin-near (sine-below (ourAngle x))))
 
@@ -164,7 +164,7 @@ unfolding offsetsAt D
 offsets-near rows a x h =
     let p = placed rows a x in
     record {
-      den-positive = N.mul-pos (parts-positive (place rows x) x p) (sineDen-positive angleParts (lit≤ tt));
+      positive = N.mul-pos (parts-positive (place rows x) x p) (sineDen-positive angleParts (lit≤ tt));
       x-near = x-near (place rows x) x p h;
       y-near = y-near (place rows x) x p h;
       uncertainty-is = refl;

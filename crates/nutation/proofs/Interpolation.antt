@@ -18,7 +18,7 @@ use Rattle.rows.specs.declared.Place.{Place}
 use Rattle.rows.specs.declared.Place.the-variants.{End, Between}
 use Rattle.rows.specs.Table.{largest, AcceptedRow}
 use Rattle.rows.specs.Places.{rowMoment}
-use Rattle.nutation.specs.Exact.{span, parts, value}
+use Rattle.nutation.specs.Exact.{span, parts, interpolated}
 use Rattle.nutation.specs.Ours.{factor, mixed, amplitude}
 use Rattle.rows.specs.Inner.{Placed}
 use Rattle.nutation.proofs.Sizes.{inside-span, after-less, between-small, minus-small}
@@ -64,8 +64,8 @@ parts-positive (End r) x h = lit≤ tt
 parts-positive (Between a b) x h = N.lt-of-le-of-lt zero-le (N.lt-of-lt-of-le (after-less a b x (h .2)) (le-of-eq (sym (inside-span a b x (h .2)))))
 
 module _ (f : Row → ℤ) (k : (r : Row) → AcceptedRow r → natAbs (f r) ≤ largest) where
-  pub amplitude-near : (p : Place) (x : ℕ) → Placed p x → Near (amplitude f p x *ℤ pos (parts p)) (value f p x *ℤ pos (2 ^ 10)) (3 * parts p)
-  unfolding amplitude value parts factor
+  pub amplitude-near : (p : Place) (x : ℕ) → Placed p x → Near (amplitude f p x *ℤ pos (parts p)) (interpolated f p x *ℤ pos (2 ^ 10)) (3 * parts p)
+  unfolding amplitude interpolated parts factor
   amplitude-near (End r) x h = near-as (near-refl (f r *ℤ pos (2 ^ 10))) (alg (f r *ℤ pos (2 ^ 10))) refl (lit≤ tt)
     where
       alg : (z : ℤ) → z *ℤ pos 1 ≡ z
@@ -73,8 +73,8 @@ module _ (f : Row → ℤ) (k : (r : Row) → AcceptedRow r → natAbs (f r) ≤
   amplitude-near (Between a b) x h =
       mixed-near (span a b) (x - rowMoment a) (f a) (f b) (parts-positive (Between a b) x h) (k a (h .0)) (k b (h .1))
 
-  pub value-small : (p : Place) (x : ℕ) → Placed p x → natAbs (value f p x) ≤ largest * parts p
-  unfolding value parts
+  pub value-small : (p : Place) (x : ℕ) → Placed p x → natAbs (interpolated f p x) ≤ largest * parts p
+  unfolding interpolated parts
   value-small (End r) x h = le-trans (k r h) (lit≤ tt)
   value-small (Between a b) x h =
       between-small (span a b) (x - rowMoment a) largest (f a) (f b) inner (k a (h .0)) (k b (h .1))

@@ -22,7 +22,7 @@ use Rattle.rows.specs.BuiltIn.{builtIn}
 use Rattle.rows.specs.Places.{started, place}
 use Rattle.nutation.specs.Exact.{span, exactX, exactY, exactDen}
 use Rattle.nutation.specs.Ours.{ourAngle, factor, mixed, amplitude, offset, offsetsAt, ourOffsets, nutationWith, nutationOf}
-use Rattle.nutation.specs.Claims.{distance, Within, OffsetsNear}
+use Rattle.nutation.specs.Claims.{distance, OffsetWithin, OffsetsNear}
 use Rattle.rows.proofs.Accepted.{builtIn-accepted}
 use Rattle.nutation.proofs.Distance.{offsets-near}
 
@@ -56,13 +56,13 @@ late-accepted = refl
 
 -- Either offset, ours and the exact one: a number within the distance of the exact offset on both days is within twice the distance of ours on both, but
 -- ours are more than four times the distance apart.
-no-constant : (ours exact : ℕ → ℤ) → ((d : ℤ) (m : ℕ) → IsAccepted d m → Within (ours (momentOf d m)) (exact (momentOf d m)) (exactDen builtIn (momentOf d m)))
+no-constant : (ours exact : ℕ → ℤ) → ((d : ℤ) (m : ℕ) → IsAccepted d m → OffsetWithin (ours (momentOf d m)) (exact (momentOf d m)) (exactDen builtIn (momentOf d m)))
     → 4 * distance < natAbs (ours (momentOf (+ 46796) 0) -ℤ ours (momentOf (+ 54832) 0))
-    → (c : ℤ) → ((d : ℤ) (m : ℕ) → IsAccepted d m → Within c (exact (momentOf d m)) (exactDen builtIn (momentOf d m))) → ⊥
+    → (c : ℤ) → ((d : ℤ) (m : ℕ) → IsAccepted d m → OffsetWithin c (exact (momentOf d m)) (exactDen builtIn (momentOf d m))) → ⊥
 no-constant ours exact near t c h = near-two-apart (at (+ 46796) 0 early-accepted) (at (+ 54832) 0 late-accepted) t
   where
     at : (d : ℤ) (m : ℕ) → IsAccepted d m → Near c (ours (momentOf d m)) (distance + distance)
-    at d m a = near-one-fraction distance distance (near-here builtIn builtIn-accepted d m a .den-positive) (h d m a) (near d m a)
+    at d m a = near-one-fraction distance distance (near-here builtIn builtIn-accepted d m a .positive) (h d m a) (near d m a)
 
 abbrev atBoth : (Offsets → ℤ) → ℤ
 atBoth f = f (ourOffsets builtIn (momentOf (+ 46796) 0)) -ℤ f (ourOffsets builtIn (momentOf (+ 54832) 0))
@@ -72,9 +72,9 @@ unfolding offsetsAt builtIn place started span factor mixed amplitude offset day
 both-apart = (lit≤ tt, lit≤ tt)
 
 -- PROMISE. No one number, zero among them, is within 2 nanoarcseconds of X at every accepted instant.
-pub no-constant-x : (c : ℤ) → ((d : ℤ) (m : ℕ) → IsAccepted d m → Within c (exactX builtIn (momentOf d m)) (exactDen builtIn (momentOf d m))) → ⊥
+pub no-constant-x : (c : ℤ) → ((d : ℤ) (m : ℕ) → IsAccepted d m → OffsetWithin c (exactX builtIn (momentOf d m)) (exactDen builtIn (momentOf d m))) → ⊥
 no-constant-x = no-constant (λ x. ourOffsets builtIn x .x) (exactX builtIn) (λ d m a. near-here builtIn builtIn-accepted d m a .x-near) (both-apart .0)
 
 -- PROMISE. And none of Y.
-pub no-constant-y : (c : ℤ) → ((d : ℤ) (m : ℕ) → IsAccepted d m → Within c (exactY builtIn (momentOf d m)) (exactDen builtIn (momentOf d m))) → ⊥
+pub no-constant-y : (c : ℤ) → ((d : ℤ) (m : ℕ) → IsAccepted d m → OffsetWithin c (exactY builtIn (momentOf d m)) (exactDen builtIn (momentOf d m))) → ⊥
 no-constant-y = no-constant (λ x. ourOffsets builtIn x .y) (exactY builtIn) (λ d m a. near-here builtIn builtIn-accepted d m a .y-near) (both-apart .1)

@@ -13,7 +13,7 @@ use Rattle.algebra.proofs.Ring.{end, _▸_, _▹_, ring, quote, ringN, quoteN}
 use Rattle.rows.specs.declared.Row.{Row}
 use Rattle.rows.specs.declared.Place.the-variants.{End, Between}
 use Rattle.rows.specs.Places.{rowMoment}
-use Rattle.nutation.specs.Exact.{value, uValue, uParts, roundUp, uncertaintyAt}
+use Rattle.nutation.specs.Exact.{interpolated, uValue, uParts, roundUp, uncertaintyAt}
 use Rattle.rows.specs.Inner.{Inside}
 use Rattle.nutation.specs.Inner.{twiceBetween}
 use Rattle.nutation.proofs.Sizes.{inside-span, after-less}
@@ -38,7 +38,7 @@ between-natural u v w n h = ap (λ (z : ℤ). pos u *ℤ z +ℤ (pos v -ℤ pos 
 
 pub between-is : (a b : Row) (x : ℕ) → Inside a b x
     → uncertaintyAt (Between a b) x ≡ twiceBetween (a .uncertainty) (b .uncertainty) ((b .day - a .day) * dayMicros) (x - rowMoment a)
-unfolding uncertaintyAt uValue uParts value twiceBetween
+unfolding uncertaintyAt uValue uParts interpolated twiceBetween
 between-is a b x h =
     ap (λ (w : ℕ). roundUp (2 * (10 * natAbs (pos u *ℤ pos w +ℤ (pos v -ℤ pos u) *ℤ pos (x - rowMoment a)))) w) (inside-span a b x h)
     ∙ go ((b .day - a .day) * dayMicros) (x - rowMoment a) (N.le-of-lt (after-less a b x h))

@@ -13,12 +13,12 @@ abbrev pub distance : ℕ
 distance = 2
 
 -- the whole number z is at most `distance` from the fraction num / den
-abbrev pub Within : ℤ → ℤ → ℕ → Type 0
-Within z num den = Near (z *ℤ pos den) num (distance * den)
+abbrev pub OffsetWithin : ℤ → ℤ → ℕ → Type 0
+OffsetWithin z num den = Near (z *ℤ pos den) num (distance * den)
 
 -- both offsets are near the exact ones at x, over a denominator that is not 0, and the uncertainty is the exact one
 pub record OffsetsNear (rows : List Row) (x : ℕ) (o : Offsets) : Type 0 where
-  pub den-positive : 0 < exactDen rows x
-  pub x-near : Within (o .x) (exactX rows x) (exactDen rows x)
-  pub y-near : Within (o .y) (exactY rows x) (exactDen rows x)
+  pub positive : 0 < exactDen rows x
+  pub x-near : OffsetWithin (o .x) (exactX rows x) (exactDen rows x)
+  pub y-near : OffsetWithin (o .y) (exactY rows x) (exactDen rows x)
   pub uncertainty-is : o .uncertainty ≡ exactUncertainty rows x

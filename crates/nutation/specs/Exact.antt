@@ -12,7 +12,7 @@ use Rattle.rows.specs.declared.Place.{Place}
 use Rattle.rows.specs.declared.Place.the-variants.{End, Between}
 use Rattle.rows.specs.Places.{rowMoment, place}
 
--- ---- a number f of the rows at x, interpolated straight between two rows: `value` over `parts`
+-- ---- a number f of the rows at x, straight between two rows: `interpolated` over `parts`
 
 -- the microseconds from one row's date to a later one's
 unfoldable pub span : Row → Row → ℕ
@@ -24,17 +24,17 @@ parts (End r) = 1
 parts (Between a b) = span a b
 
 -- the numerator: f of the end's row; between two rows, x being at or after a and before b, that of f a + (f b - f a) * (x - a) / (b - a)
-unfoldable pub value : (Row → ℤ) → Place → ℕ → ℤ
-value f (End r) x = f r
-value f (Between a b) x = f a *ℤ pos (span a b) +ℤ (f b -ℤ f a) *ℤ pos (x - rowMoment a)
+unfoldable pub interpolated : (Row → ℤ) → Place → ℕ → ℤ
+interpolated f (End r) x = f r
+interpolated f (Between a b) x = f a *ℤ pos (span a b) +ℤ (f b -ℤ f a) *ℤ pos (x - rowMoment a)
 
 -- ---- the amplitudes in hundredths of a microarcsecond, over `parts`
 
 abbrev pub XC : Place → ℕ → ℤ
-XC p x = value (λ r. r .xc) p x
+XC p x = interpolated (λ r. r .xc) p x
 
 abbrev pub XS : Place → ℕ → ℤ
-XS p x = value (λ r. r .xs) p x
+XS p x = interpolated (λ r. r .xs) p x
 
 -- YC = XS, YS = -XC
 abbrev pub YC : Place → ℕ → ℤ
@@ -76,7 +76,7 @@ exactDen rows x = parts (place rows x) * sineDen angleParts
 -- two rows it is the absolute value of what is interpolated
 unfoldable pub uValue : Place → ℕ → ℕ
 uValue (End r) x = r .uncertainty * (100 * dayMicros) + 1325 * dist x (rowMoment r)
-uValue (Between a b) x = natAbs (value (λ r. pos (r .uncertainty)) (Between a b) x)
+uValue (Between a b) x = natAbs (interpolated (λ r. pos (r .uncertainty)) (Between a b) x)
 
 -- the denominator
 unfoldable pub uParts : Place → ℕ

@@ -43,5 +43,5 @@ pub record Distance : Type 0 where
   pub offsets-near : (d : ℤ) (m : ℕ) → IsAccepted d m → (o : Offsets) × (nutationOf d m ≡ Nutation o) × OffsetsNear builtIn (momentOf d m) o
   -- no constant offset would do
   pub offsets-vary : (c : ℤ)
-      → (((d : ℤ) (m : ℕ) → IsAccepted d m → nutation.Within c (exactX builtIn (momentOf d m)) (exactDen builtIn (momentOf d m))) → ⊥)
-      × (((d : ℤ) (m : ℕ) → IsAccepted d m → nutation.Within c (exactY builtIn (momentOf d m)) (exactDen builtIn (momentOf d m))) → ⊥)
+      → (((d : ℤ) (m : ℕ) → IsAccepted d m → nutation.OffsetWithin c (exactX builtIn (momentOf d m)) (exactDen builtIn (momentOf d m))) → ⊥)
+      × (((d : ℤ) (m : ℕ) → IsAccepted d m → nutation.OffsetWithin c (exactY builtIn (momentOf d m)) (exactDen builtIn (momentOf d m))) → ⊥)

@@ -9,7 +9,7 @@ use lib.Signed.{ltZ}
 use borrow.Author.Tests.{ltb-false, le-ltb}
 use Rattle.instants.specs.Limits.{lastDay, dayMicros}
 use Rattle.instants.specs.Instants.{dayIndex, instantCases, acceptance, IsAccepted, laterDay, laterMicros}
-use Rattle.instants.specs.Inner.{acceptanceRefusal}
+use Rattle.instants.specs.Inner.{acceptanceRefusalOf}
 use Rattle.instants.specs.Refusals.{firstRefusal}
 use Rattle.instants.proofs.FirstRefusal.{none-both, refused-first, first-none}
 use Rattle.instants.proofs.Accepted.{between, accepted-at, accepted-none, acceptance-refusal}
@@ -28,7 +28,7 @@ pub record Counted (count step : ℕ) : Type 0 where
 
 module _ (d : ℤ) (m count step n : ℕ) (h : Counted count step) where
   -- then a start that is not accepted refuses the run
-  pub refused-at-start : (acceptanceRefusal (acceptance d m) ≡ 0 → ⊥) → acceptanceRefusal (acceptance d m) ≡ runRefusal d m count step n
+  pub refused-at-start : (acceptanceRefusalOf (acceptance d m) ≡ 0 → ⊥) → acceptanceRefusalOf (acceptance d m) ≡ runRefusal d m count step n
   unfolding runRefusal
   refused-at-start g =
       let e = acceptance-refusal d m in

@@ -6,7 +6,7 @@ use zonal::ZonalAnswer;
 ghost use mathlib.Core.Path.{_≡_};
 ghost use lib.ListN.{length};
 ghost use Rattle.bigendian.specs.Buffers.{atFront};
-ghost use Rattle.instants.specs.Inner.{acceptanceRefusal, LaterBounds};
+ghost use Rattle.instants.specs.Inner.{acceptanceRefusalOf, LaterBounds};
 ghost use Rattle.instants.specs.Instants.{laterDay, laterMicros};
 ghost use Rattle.run.specs.Run.{runRefusal, runBytes, runWritten};
 ghost use Rattle.run.specs.Inner.{writtenAt};
@@ -16,7 +16,7 @@ const MOST_RECORDS: u64 = 96;
 
 // The refusal that an acceptance is, or 0.
 fn acceptance_refusal(a: Acceptance) -> u32
-    ensures { λ r. ⌜ r ≡ acceptanceRefusal a ⌝ }
+    ensures { λ r. ⌜ r ≡ acceptanceRefusalOf a ⌝ }
 {
     match a {
         Acceptance::NotAccepted(n) => n,

@@ -13,7 +13,7 @@ use Rattle.tide.specs.declared.Doodson.{Doodson}
 use Rattle.tide.specs.declared.TideAnswer.{TideAnswer}
 use Rattle.tide.specs.declared.TideAnswer.the-variants.{Tide, NoTide}
 use Rattle.tide.specs.Binary64.{zero64}
-use Rattle.tide.specs.Tidal.{argumentsAt, sumOfProducts, turn, raised, settled, reduced, constituentOf, allInRange, rangeCases, tideCases, tideOf, frequencyOf, phaseOf, doodson}
+use Rattle.tide.specs.Tidal.{argumentsAt, sumOfProducts, turn64, raised, settled, reduced, constituentOf, allInRange, rangeCases, tideCases, tideOf, frequencyOf, phaseOf, doodson}
 use Rattle.tide.specs.Claims.{Finite, InTurn}
 use Rattle.tide.proofs.Bounded.{bound-finite}
 use Rattle.tide.proofs.Sums.{bounds-at, sum-bound, zero-sum}
@@ -48,7 +48,7 @@ frequency-finite d m k = in-each NoTide (λ (x : TideAnswer). Finite (frequencyO
 
 -- ---- six zeros
 zero-reduced : reduced zero64 ≡ zero64
-unfolding reduced raised settled turn ofInt rem lt eq
+unfolding reduced raised settled turn64 ofInt rem lt eq
 zero-reduced = refl
 
 -- PROMISE. At every accepted instant six zero multipliers give +0 and +0.

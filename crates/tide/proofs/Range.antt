@@ -10,7 +10,7 @@ use lib.Dec.{ltb, eqb, lit<, lit≤}
 use lib.Ieee.{Float, nan, inf, fin, binary64, up, down, round, add, rem, sum, lt, eq, ofInt}
 use lib.Ieee.Fits.{down-pos}
 use Rattle.tide.specs.Binary64.{zero64}
-use Rattle.tide.specs.Tidal.{turn, raised, settled, reduced}
+use Rattle.tide.specs.Tidal.{turn64, raised, settled, reduced}
 use Rattle.tide.specs.Claims.{InTurn}
 use Rattle.tide.proofs.Rounded.{Within, Plus, round-within, round-plus}
 
@@ -40,8 +40,8 @@ small-of s nan h = tt
 small-of s (inf t) h = h
 small-of s (fin t m e) h = h .1
 
-rem-small : (p : Float) → Small (rem binary64 p turn)
-unfolding rem turn ofInt
+rem-small : (p : Float) → Small (rem binary64 p turn64)
+unfolding rem turn64 ofInt
 rem-small nan = tt
 rem-small (inf s) = tt
 rem-small (fin s m e) =
@@ -51,8 +51,8 @@ rem-small (fin s m e) =
     (subst (λ (z : ℕ). n ≤ 360 * z) (sym (mul-one (down e))) (le-of-lt (mod-lt (m * up e * 1) (mul-pos (lit< tt) (down-pos e))))))
 
 -- ---- raised it is not below zero
-up-above : (x : Float) → Small x → lt (add binary64 x turn) zero64 ≡ false
-unfolding add turn ofInt sum
+up-above : (x : Float) → Small x → lt (add binary64 x turn64) zero64 ≡ false
+unfolding add turn64 ofInt sum
 up-above nan h = unfold lt in refl
 up-above (inf s) h = absurd h
 up-above (fin false m e) h = round-above (m * up e * 1 + 360 * down e) (down e * 1)
@@ -69,7 +69,7 @@ raised-above : (r : Float) → Small r → lt (raised r) zero64 ≡ false
 unfolding raised
 raised-above r h = go (lt r zero64) refl
   where
-    go : (b : Bool) → lt r zero64 ≡ b → lt (cond b (add binary64 r turn) r) zero64 ≡ false
+    go : (b : Bool) → lt r zero64 ≡ b → lt (cond b (add binary64 r turn64) r) zero64 ≡ false
     go true e = up-above r h
     go false e = e
 
@@ -81,8 +81,8 @@ nought x y h c =
     let q : y ≡ 0 = omega arith in
     true≢false (sym (ap (λ (z : ℕ). eqb z y && eqb z 0) p ∙ ap (λ (z : ℕ). eqb 0 z && true) q) ∙ c)
 
-kept-in : (q : Float) → lt q zero64 ≡ false → lt q turn ≡ true → eq q zero64 ≡ false → InTurn q
-unfolding lt eq turn ofInt
+kept-in : (q : Float) → lt q zero64 ≡ false → lt q turn64 ≡ true → eq q zero64 ≡ false → InTurn q
+unfolding lt eq turn64 ofInt
 kept-in nan a b c = absurd (true≢false (sym b))
 kept-in (inf true) a b c = absurd (true≢false a)
 kept-in (inf false) a b c = absurd (true≢false (sym b))
@@ -91,13 +91,13 @@ kept-in (fin false m e) a b c = (refl, subst (λ (z : ℕ). z < 360 * down e) (m
 
 settled-in : (q : Float) → lt q zero64 ≡ false → InTurn (settled q)
 unfolding settled
-settled-in q a = go (lt q turn) (eq q zero64) refl refl
+settled-in q a = go (lt q turn64) (eq q zero64) refl refl
   where
-    go : (b c : Bool) → lt q turn ≡ b → eq q zero64 ≡ c → InTurn (cond b (cond c zero64 q) zero64)
+    go : (b c : Bool) → lt q turn64 ≡ b → eq q zero64 ≡ c → InTurn (cond b (cond c zero64 q) zero64)
     go true true e f = zero-in
     go true false e f = kept-in q a e f
     go false c e f = zero-in
 
 pub reduced-in-turn : (p : Float) → InTurn (reduced p)
 unfolding reduced
-reduced-in-turn p = settled-in (raised (rem binary64 p turn)) (raised-above (rem binary64 p turn) (rem-small p))
+reduced-in-turn p = settled-in (raised (rem binary64 p turn64)) (raised-above (rem binary64 p turn64) (rem-small p))

@@ -13,7 +13,7 @@ use Rattle.instants.specs.Instants.{IsAccepted, dayIndex}
 use Rattle.instants.proofs.Accepted.{accepted-at}
 use Rattle.tide.specs.declared.Doodson.{Doodson}
 use Rattle.tide.specs.declared.Arguments.{Arguments}
-use Rattle.tide.specs.Binary64.{_⊕_, _⊖_, _⊗_, whole, decimal, zero64}
+use Rattle.tide.specs.Binary64.{_⊕_, _⊖_, _⊗_, whole, decimal64, zero64}
 use Rattle.tide.specs.Delaunay.{horner, F1, F2, F3, F4, F5, FD1, FD2, FD3, FD4, FD5}
 use Rattle.tide.specs.Tidal.{dayFraction, centuries, argumentsOf, argumentsAt, sumOfProducts, inRange, allInRange, doodson}
 use Rattle.tide.proofs.Signed.{dayMost, accepted-size, range-size, Each, each}
@@ -25,7 +25,7 @@ unfolding dayFraction ofInt
 fraction-bound m h = divided 10546875 13 tt refl (lit< tt) (number 86_400_000_000 (pos m) tt (le-of-lt h))
 
 centuries-bound : (d : ℤ) (f : Float) → natAbs d ≤ dayMost → Bound 1 f → Bound 7 (centuries d f)
-unfolding centuries ofInt decimal
+unfolding centuries ofInt decimal64
 centuries-bound d f h a = divided 36525 0 tt refl (lit< tt) (wide tt (added tt (subtracted tt (subtracted tt (number dayMost d tt h) (number 51544 (pos 51544) tt (lit≤ tt))) (known {B = 1} tt)) a))
 
 -- ---- the Delaunay arguments and their frequencies
@@ -41,7 +41,7 @@ horner-bound t c0 c1 c2 c3 c4 = added tt c0 (multiplied tt t (added tt c1 (multi
 module _ {t : Float} (h : Bound 7 t) where
   -- all five at once
   delaunay : Bound delaunayMost (F1 t) × Bound delaunayMost (F2 t) × Bound delaunayMost (F3 t) × Bound delaunayMost (F4 t) × Bound delaunayMost (F5 t)
-  unfolding F1 F2 F3 F4 F5 decimal
+  unfolding F1 F2 F3 F4 F5 decimal64
   delaunay = (
     horner-bound h (known tt) (known tt) (known tt) (known tt) (known tt),
     horner-bound h (known tt) (known tt) (known tt) (known tt) (known tt),
@@ -59,7 +59,7 @@ module _ {t : Float} (h : Bound 7 t) where
 
   -- that of l' is a constant
   frequencies : Bound 8 (FD1 t) × Bound 1 FD2 × Bound 8 (FD3 t) × Bound 8 (FD4 t) × Bound 8 (FD5 t)
-  unfolding FD1 FD2 FD3 FD4 FD5 decimal
+  unfolding FD1 FD2 FD3 FD4 FD5 decimal64
   frequencies = (rising (known tt) (known tt), known tt, falling (known tt) (known tt), falling (known tt) (known tt), rising (known tt) (known tt))
 
 -- ---- the Doodson arguments: each of the twelve is at most 15 million in size

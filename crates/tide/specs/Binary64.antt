@@ -30,12 +30,12 @@ zero64 = fin false 0 (pos 0)
 
 -- A decimal constant of ten places is written with _ for its point: plus 134_9634025100 is the binary64 nearest to 134.9634025100,
 -- and minus 0_0000000680 the one nearest to -0.0000000680.
-unfoldable pub decimal : Bool → ℕ → Float
+unfoldable pub decimal64 : Bool → ℕ → Float
 unfolding round
-decimal negative n = round binary64 negative n 10_000_000_000
+decimal64 negative n = round binary64 negative n 10_000_000_000
 
 abbrev pub plus : ℕ → Float
-plus n = decimal false n
+plus n = decimal64 false n
 
 abbrev pub minus : ℕ → Float
-minus n = decimal true n
+minus n = decimal64 true n

@@ -51,23 +51,23 @@ sumOfProducts k x1 x2 x3 x4 x5 x6 =
     zero64 ⊕ whole (k .k1) ⊗ x1 ⊕ whole (k .k2) ⊗ x2 ⊕ whole (k .k3) ⊗ x3 ⊕ whole (k .k4) ⊗ x4 ⊕ whole (k .k5) ⊗ x5 ⊕ whole (k .k6) ⊗ x6
 
 -- 360 degrees
-unfoldable pub turn : Float
-turn = whole (pos 360)
+unfoldable pub turn64 : Float
+turn64 = whole (pos 360)
 
 -- 360 is added to a remainder below zero
 unfoldable pub raised : Float → Float
-unfolding turn
-raised r = cond (Ieee.lt r zero64) (r ⊕ turn) r
+unfolding turn64
+raised r = cond (Ieee.lt r zero64) (r ⊕ turn64) r
 
 -- what is not below 360 becomes +0, and so does a zero of either sign
 unfoldable pub settled : Float → Float
-unfolding turn
-settled q = cond (Ieee.lt q turn) (cond (Ieee.eq q zero64) zero64 q) zero64
+unfolding turn64
+settled q = cond (Ieee.lt q turn64) (cond (Ieee.eq q zero64) zero64 q) zero64
 
 -- the phase of a sum of degrees: its remainder by 360 (C's fmod), raised and settled
 unfoldable pub reduced : Float → Float
-unfolding turn raised settled
-reduced p = settled (raised (Ieee.rem binary64 p turn))
+unfolding turn64 raised settled
+reduced p = settled (raised (Ieee.rem binary64 p turn64))
 
 -- the frequency and the phase
 unfoldable pub constituentOf : Arguments → Doodson → Constituent

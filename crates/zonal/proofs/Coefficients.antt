@@ -9,7 +9,7 @@ use Rattle.algebra.proofs.Tests.{and-split, every, each}
 use Rattle.algebra.specs.Integers.{+_}
 use lib.ListN.{getD}
 use Rattle.zonal.specs.Coefficients.{coefficients}
-use Rattle.zonal.specs.Exact.{rows, coefficient}
+use Rattle.zonal.specs.Exact.{rowCount, coefficient}
 
 abbrev pub smallRow : List ℤ → Bool
 smallRow [] = true
@@ -23,5 +23,5 @@ small-at [] t j = lit≤ tt
 small-at (c ∷ cs) t zero = leb→le (natAbs c) (2 ^ 24) (and-split (leb (natAbs c) (2 ^ 24)) (smallRow cs) t .0)
 small-at (c ∷ cs) t (suc j) = small-at cs (and-split (leb (natAbs c) (2 ^ 24)) (smallRow cs) t .1) j
 
-pub coefficient-small : (r : ℕ) → r < rows → (j : ℕ) → natAbs (coefficient r j) ≤ 2 ^ 24
+pub coefficient-small : (r : ℕ) → r < rowCount → (j : ℕ) → natAbs (coefficient r j) ≤ 2 ^ 24
 coefficient-small r h j = small-at (getD coefficients r []) (each smallRow coefficients rows-small [] r h) j

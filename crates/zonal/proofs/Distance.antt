@@ -1,5 +1,5 @@
 -- The distance of our three numbers from the exact sums, on every day from 1600 to 2400. A row's sine is off by `sineDistance`, and by what the
--- angle's `angleDistance` makes of it; a sum by that times the weights of its two columns (Weighted); the number by its factor times the sum's
+-- angle's `rowAngleDistance` makes of it; a sum by that times the weights of its two columns (Weighted); the number by its factor times the sum's
 -- distance and half a unit for the rounding. That this is within `proved` is one computed test for each number.
 -- Assumes nothing.
 use mathlib.Core.Path.{_≡_}
@@ -11,13 +11,13 @@ use Rattle.instants.specs.Limits.{dayMicros, daysCovered, indexOffset}
 use Rattle.algebra.specs.Near.{Near}
 use Rattle.algebra.proofs.Near.{near-wide}
 use Rattle.instants.specs.Moments.{sinceJ2000, century, moment}
-use Rattle.arguments.specs.Exact.{turnParts, exactAngle}
-use Rattle.arguments.specs.Ours.{ourAngle}
-use Rattle.arguments.proofs.Distance.{angleDistance, angle-near, our-angle-less, exact-angle-less}
+use Rattle.arguments.specs.Exact.{turnParts, exactRowAngle}
+use Rattle.arguments.specs.Ours.{ourRowAngle}
+use Rattle.arguments.proofs.Distance.{rowAngleDistance, row-angle-near, our-angle-less, exact-angle-less}
 use Rattle.sine.proofs.Angles.{sineDen-positive}
 use Rattle.sine.proofs.Distance.{SineNear, sineDistance, sine-near, cosine-near, rounded-near}
 use Rattle.zonal.specs.declared.Corrections.{Corrections}
-use Rattle.zonal.specs.Exact.{rows, coefficient, denominator, exactRowSine, exactRowCosine}
+use Rattle.zonal.specs.Exact.{rowCount, coefficient, denominator, exactRowSine, exactRowCosine}
 use Rattle.zonal.specs.Ours.{rowSine, rowCosine, rounded, correctionsAt}
 use Rattle.zonal.specs.Within.{Distances, distances, Within}
 use Rattle.zonal.proofs.Weighted.{weighted, columnWeight, sum-near, ut1-is, lod-is, rate-is}
@@ -28,11 +28,11 @@ proved = distances 3 18 2
 
 -- 64 times the distance of a row's sine or cosine, in units of 2^-31
 abbrev pub rowDistance : ℕ
-rowDistance = 64 * sineDistance + angleDistance
+rowDistance = 64 * sineDistance + rowAngleDistance
 
 -- the distance of a sum over the column j and the next, times f, leaves half a unit to e, in units of 2^-37
 abbrev pub Room : (f j e : ℕ) → Type 0
-Room f j e = f * (columnWeight j rows * rowDistance) + 64 * 2 ^ 30 ≤ e * (64 * 2 ^ 31)
+Room f j e = f * (columnWeight j rowCount * rowDistance) + 64 * 2 ^ 30 ≤ e * (64 * 2 ^ 31)
 
 -- the computed test
 room : Room 10 0 (proved .ut1) × Room 1000 2 (proved .lod) × Room 100 4 (proved .rate)
@@ -50,22 +50,22 @@ module _ (d : ℤ) (i m : ℕ) (hd : d ≡ pos i -ℤ pos indexOffset) (hi : i <
   n = sinceJ2000 d m
 
   -- a row's sine and cosine
-  row-sine : (r : ℕ) → r < rows → SineNear (rowSine x r) (exactRowSine n r) denominator angleDistance
+  row-sine : (r : ℕ) → r < rowCount → SineNear (rowSine x r) (exactRowSine n r) denominator rowAngleDistance
   unfolding quarter
-  row-sine r h = sine-near quarter (exactAngle r n) (ourAngle r x) angleDistance (lit≤ tt) (exact-angle-less r n) (our-angle-less r x) (angle-near d i m r hd hi hm h)
+  row-sine r h = sine-near quarter (exactRowAngle r n) (ourRowAngle r x) rowAngleDistance (lit≤ tt) (exact-angle-less r n) (our-angle-less r x) (row-angle-near d i m r hd hi hm h)
 
-  row-cosine : (r : ℕ) → r < rows → SineNear (rowCosine x r) (exactRowCosine n r) denominator angleDistance
+  row-cosine : (r : ℕ) → r < rowCount → SineNear (rowCosine x r) (exactRowCosine n r) denominator rowAngleDistance
   unfolding quarter
-  row-cosine r h = cosine-near quarter (exactAngle r n) (ourAngle r x) angleDistance (lit≤ tt) (exact-angle-less r n) (our-angle-less r x) (angle-near d i m r hd hi hm h)
+  row-cosine r h = cosine-near quarter (exactRowAngle r n) (ourRowAngle r x) rowAngleDistance (lit≤ tt) (exact-angle-less r n) (our-angle-less r x) (row-angle-near d i m r hd hi hm h)
 
   -- one number
   number-near : (f j e : ℕ) (p q y z : ℕ → ℤ) → Room f j e
-      → ((r : ℕ) → r < rows → SineNear (p r) (y r) denominator angleDistance) → ((r : ℕ) → r < rows → SineNear (q r) (z r) denominator angleDistance)
-      → Near (rounded (pos f) (weighted p q j rows) *ℤ pos denominator) (pos f *ℤ weighted y z j rows) (e * denominator)
+      → ((r : ℕ) → r < rowCount → SineNear (p r) (y r) denominator rowAngleDistance) → ((r : ℕ) → r < rowCount → SineNear (q r) (z r) denominator rowAngleDistance)
+      → Near (rounded (pos f) (weighted p q j rowCount) *ℤ pos denominator) (pos f *ℤ weighted y z j rowCount) (e * denominator)
   unfolding weighted
   number-near f j e p q y z t hp hq =
-      rounded-near f denominator (columnWeight j rows * rowDistance) e (weighted p q j rows) (weighted y z j rows) t
-      (sum-near (λ r. coefficient r j) (λ r. coefficient r (j + 1)) denominator angleDistance p q y z rows (λ r h. (hp r h, hq r h)))
+      rounded-near f denominator (columnWeight j rowCount * rowDistance) e (weighted p q j rowCount) (weighted y z j rowCount) t
+      (sum-near (λ r. coefficient r j) (λ r. coefficient r (j + 1)) denominator rowAngleDistance p q y z rowCount (λ r h. (hp r h, hq r h)))
 
   -- On the day of index i and day number d, at the microsecond m, the three numbers are within these distances of the exact sums.
   pub corrections-near : Within proved n (correctionsAt i m)

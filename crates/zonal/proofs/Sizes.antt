@@ -13,21 +13,21 @@ use mir.Syntax.{w32}
 use mir.Val.{SFits}
 use Rattle.algebra.proofs.Order.{abs-mul, abs-add}
 use Rattle.instants.specs.Moments.{moment}
-use Rattle.arguments.specs.Ours.{ourAngle}
+use Rattle.arguments.specs.Ours.{ourRowAngle}
 use Rattle.zonal.proofs.Coefficients.{coefficient-small}
 use Rattle.sine.proofs.Sizes as sizes
 use Rattle.sine.proofs.Sizes.{sineMost}
 use Rattle.zonal.specs.declared.Corrections.{Corrections}
-use Rattle.zonal.specs.Exact.{rows, coefficient, ut1Sum, lodSum, rateSum}
+use Rattle.zonal.specs.Exact.{rowCount, coefficient, ut1Sum, lodSum, rateSum}
 use Rattle.zonal.specs.Ours.{rowSine, rowCosine, rounded, correctionsAt}
 use Rattle.zonal.specs.Inner.{sumMost, productMost}
 use Rattle.zonal.proofs.Weighted.{weighted, columnWeight, sum-small, ut1-is, lod-is, rate-is}
 
 pub sine-most : (x r : ℕ) → natAbs (rowSine x r) ≤ sineMost
-sine-most x r = sizes.sine-most (ourAngle r x)
+sine-most x r = sizes.sine-most (ourRowAngle r x)
 
 pub cosine-most : (x r : ℕ) → natAbs (rowCosine x r) ≤ sineMost
-cosine-most x r = sizes.cosine-most (ourAngle r x)
+cosine-most x r = sizes.cosine-most (ourRowAngle r x)
 
 module _ (p q : ℕ → ℤ) (j : ℕ) (hp : (r : ℕ) → natAbs (p r) ≤ sineMost) (hq : (r : ℕ) → natAbs (q r) ≤ sineMost) where
   weighted-small : (k : ℕ) → natAbs (weighted p q j k) ≤ columnWeight j k * sineMost
@@ -35,18 +35,18 @@ module _ (p q : ℕ → ℤ) (j : ℕ) (hp : (r : ℕ) → natAbs (p r) ≤ sine
   weighted-small k = sum-small (λ r. coefficient r j) (λ r. coefficient r (j + 1)) sineMost p q hp hq k
 
   -- a row's two coefficients are at most 2^24 each
-  weight-most : (k : ℕ) → k ≤ rows → columnWeight j k ≤ k * 2 ^ 25
+  weight-most : (k : ℕ) → k ≤ rowCount → columnWeight j k ≤ k * 2 ^ 25
   weight-most zero h = omega arith
   weight-most (suc k) h = next (weight-most k (omega arith)) (coefficient-small k h j) (coefficient-small k h (j + 1))
     where
       next : {w a b : ℕ} → w ≤ k * 2 ^ 25 → a ≤ 2 ^ 24 → b ≤ 2 ^ 24 → w + (a + b) ≤ suc k * 2 ^ 25
       next h i l = omega arith
 
-  pub weighted-most : (k : ℕ) → k ≤ rows → natAbs (weighted p q j k) ≤ sumMost
+  pub weighted-most : (k : ℕ) → k ≤ rowCount → natAbs (weighted p q j k) ≤ sumMost
   weighted-most k h = le-trans (weighted-small k) (le-trans (N.mul-le-mul-right sineMost (le-trans (weight-most k h) (N.mul-le-mul-right (2 ^ 25) h))) (lit≤ tt))
 
-  factor-most : (f : ℕ) → f * (columnWeight j rows * sineMost) ≤ productMost → natAbs (pos f *ℤ weighted p q j rows) ≤ productMost
-  factor-most f t = le-trans (le-of-eq (abs-mul (pos f) (weighted p q j rows))) (le-trans (N.mul-le-mul-left f (weighted-small rows)) t)
+  factor-most : (f : ℕ) → f * (columnWeight j rowCount * sineMost) ≤ productMost → natAbs (pos f *ℤ weighted p q j rowCount) ≤ productMost
+  factor-most f t = le-trans (le-of-eq (abs-mul (pos f) (weighted p q j rowCount))) (le-trans (N.mul-le-mul-left f (weighted-small rowCount)) t)
 
 -- ---- the three sums
 
@@ -55,9 +55,9 @@ pub record Small (f : ℕ) (v : ℤ) : Type 0 where
   pub sum : natAbs v ≤ sumMost
   pub product : natAbs (pos f *ℤ v) ≤ productMost
 
-small : (f j : ℕ) (p q : ℕ → ℤ) → ((r : ℕ) → natAbs (p r) ≤ sineMost) → ((r : ℕ) → natAbs (q r) ≤ sineMost) → f * (columnWeight j rows * sineMost) ≤ productMost
-    → Small f (weighted p q j rows)
-small f j p q hp hq t = record { sum = weighted-most p q j hp hq rows (N.le-refl rows); product = factor-most p q j hp hq f t }
+small : (f j : ℕ) (p q : ℕ → ℤ) → ((r : ℕ) → natAbs (p r) ≤ sineMost) → ((r : ℕ) → natAbs (q r) ≤ sineMost) → f * (columnWeight j rowCount * sineMost) ≤ productMost
+    → Small f (weighted p q j rowCount)
+small f j p q hp hq t = record { sum = weighted-most p q j hp hq rowCount (N.le-refl rowCount); product = factor-most p q j hp hq f t }
 
 module _ (x : ℕ) where
   pub ut1-small : Small 10 (ut1Sum (rowSine x) (rowCosine x))

@@ -12,7 +12,7 @@ use Rattle.algebra.specs.Near.{Near}
 use Rattle.algebra.proofs.Ring.{end, _▸_, ring, quote}
 use Rattle.algebra.proofs.Near.{near-as, near-scale, near-add, near-refl, abs-sum, abs-prod}
 use Rattle.sine.proofs.Distance.{SineNear, sineDistance}
-use Rattle.zonal.specs.Exact.{rows, coefficient, ut1Sum, lodSum, rateSum}
+use Rattle.zonal.specs.Exact.{rowCount, coefficient, ut1Sum, lodSum, rateSum}
 use Rattle.zonal.specs.Inner.{term}
 
 module _ (c d : ℕ → ℤ) where
@@ -74,14 +74,14 @@ module _ (p q : ℕ → ℤ) (j : ℕ) where
 
 -- the three sums are of this kind
 module _ (s c : ℕ → ℤ) where
-  pub ut1-is : ut1Sum s c ≡ weighted s c 0 rows
+  pub ut1-is : ut1Sum s c ≡ weighted s c 0 rowCount
   unfolding ut1Sum weighted
   ut1-is = refl
 
-  pub lod-is : lodSum s c ≡ weighted c s 2 rows
+  pub lod-is : lodSum s c ≡ weighted c s 2 rowCount
   unfolding lodSum weighted
   lod-is = refl
 
-  pub rate-is : rateSum s c ≡ weighted c s 4 rows
+  pub rate-is : rateSum s c ≡ weighted c s 4 rowCount
   unfolding rateSum weighted
   rate-is = refl

@@ -5,12 +5,12 @@ use lib.IntN.{ℤ, _+ℤ_, _*ℤ_}
 use lib.ListN.{getD}
 use Rattle.algebra.specs.Integers.{+_, sumℤ}
 use Rattle.zonal.specs.Coefficients.{coefficients}
-use Rattle.arguments.specs.Exact.{turnParts, exactAngle}
+use Rattle.arguments.specs.Exact.{turnParts, exactRowAngle}
 use Rattle.sine.specs.Exact.{sineDen, exactSine, exactCosine}
 
 -- the rows of the table
-abbrev pub rows : ℕ
-rows = 62
+abbrev pub rowCount : ℕ
+rowCount = 62
 
 -- the coefficient of the row r in the column j, both counted from 0: the first to the sixth are the columns 0 to 5
 abbrev pub coefficient : ℕ → ℕ → ℤ
@@ -18,15 +18,15 @@ coefficient r j = getD (getD coefficients r []) j (+ 0)
 
 -- The three sums over the rows, for a sine and a cosine of each row. UT1's first column goes with the sine, that of the other two with the cosine.
 unfoldable pub ut1Sum : (sine cosine : ℕ → ℤ) → ℤ
-ut1Sum sine cosine = sumℤ rows (λ r. coefficient r 0 *ℤ sine r +ℤ coefficient r 1 *ℤ cosine r)
+ut1Sum sine cosine = sumℤ rowCount (λ r. coefficient r 0 *ℤ sine r +ℤ coefficient r 1 *ℤ cosine r)
 
 -- that of length of day
 unfoldable pub lodSum : (sine cosine : ℕ → ℤ) → ℤ
-lodSum sine cosine = sumℤ rows (λ r. coefficient r 2 *ℤ cosine r +ℤ coefficient r 3 *ℤ sine r)
+lodSum sine cosine = sumℤ rowCount (λ r. coefficient r 2 *ℤ cosine r +ℤ coefficient r 3 *ℤ sine r)
 
 -- that of the rate
 unfoldable pub rateSum : (sine cosine : ℕ → ℤ) → ℤ
-rateSum sine cosine = sumℤ rows (λ r. coefficient r 4 *ℤ cosine r +ℤ coefficient r 5 *ℤ sine r)
+rateSum sine cosine = sumℤ rowCount (λ r. coefficient r 4 *ℤ cosine r +ℤ coefficient r 5 *ℤ sine r)
 
 -- the denominator of the exact sines, cosines and sums
 abbrev pub denominator : ℕ
@@ -34,10 +34,10 @@ denominator = sineDen turnParts
 
 -- the exact sine and cosine of the row r
 abbrev pub exactRowSine : ℤ → ℕ → ℤ
-exactRowSine n r = exactSine turnParts (exactAngle r n)
+exactRowSine n r = exactSine turnParts (exactRowAngle r n)
 
 abbrev pub exactRowCosine : ℤ → ℕ → ℤ
-exactRowCosine n r = exactCosine turnParts (exactAngle r n)
+exactRowCosine n r = exactCosine turnParts (exactRowAngle r n)
 
 -- exact UT1, in nanoseconds, over the denominator
 abbrev pub exactUt1 : ℤ → ℤ

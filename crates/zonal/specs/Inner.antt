@@ -5,7 +5,7 @@ use Prim.Native.Nat.{ℕ, _+_, _-_, _^_, _≤_, _<_}
 use lib.IntN.{ℤ, _+ℤ_, _*ℤ_, natAbs}
 use Rattle.zonal.specs.Coefficients.{coefficients}
 use Rattle.zonal.specs.declared.Sums.{Sums}
-use Rattle.zonal.specs.Exact.{rows, coefficient, ut1Sum, lodSum, rateSum}
+use Rattle.zonal.specs.Exact.{rowCount, coefficient, ut1Sum, lodSum, rateSum}
 use Rattle.zonal.specs.Ours.{rowSine, rowCosine}
 
 -- the row r of a sum: its coefficient in the column j times p, and that in the next times q
@@ -23,7 +23,7 @@ productMost = 2 ^ 62 - 2 ^ 31
 -- what adding a row asks, so that nothing passes 64 bits: the table, a place in it, the sum before, and the two that its coefficients go with
 pub record RowBounds (t : List (List ℤ)) (r j : ℕ) (v p q : ℤ) : Type 0 where
   pub table : t ≡ coefficients
-  pub row : r < rows
+  pub row : r < rowCount
   pub column : j < 5
   pub sum : natAbs v ≤ sumMost
   pub first : natAbs p < 2 ^ 32

@@ -6,7 +6,7 @@ use Rattle.algebra.specs.Integers.{+_}
 use Rattle.instants.specs.Refusals.{refusedOr}
 use Rattle.instants.specs.Instants.{dayIndex, instantCases}
 use Rattle.instants.specs.Moments.{moment}
-use Rattle.arguments.specs.Ours.{ourAngle}
+use Rattle.arguments.specs.Ours.{ourRowAngle}
 use Rattle.sine.specs.Ours.{ourSine, ourCosine}
 use Rattle.zonal.specs.declared.Corrections.{Corrections}
 use Rattle.zonal.specs.declared.ZonalAnswer.{ZonalAnswer}
@@ -15,10 +15,10 @@ use Rattle.zonal.specs.Exact.{ut1Sum, lodSum, rateSum}
 
 -- our sine and cosine of the row r at the moment x, in units of 2^-31
 abbrev pub rowSine : ℕ → ℕ → ℤ
-rowSine x r = ourSine (ourAngle r x)
+rowSine x r = ourSine (ourRowAngle r x)
 
 abbrev pub rowCosine : ℕ → ℕ → ℤ
-rowCosine x r = ourCosine (ourAngle r x)
+rowCosine x r = ourCosine (ourRowAngle r x)
 
 -- f times a sum in units of 2^-31, to the nearest whole number: half a unit is added, and the quotient rounded down
 abbrev pub rounded : ℤ → ℤ → ℤ

@@ -16,7 +16,7 @@ use Rattle.instants.specs.declared.Instant.{Instant}
 use Rattle.instants.specs.Limits.{lastDay, dayMicros}
 use Rattle.instants.specs.Refusals.{case, firstRefusal}
 use Rattle.instants.specs.Instants.{acceptance, IsAccepted, laterDay, laterMicros}
-use Rattle.instants.specs.Inner.{acceptanceRefusal, laterInstant}
+use Rattle.instants.specs.Inner.{acceptanceRefusalOf, laterInstant}
 use Rattle.record.specs.Format.{recordLength}
 use Rattle.run.specs.Run.{mostRecords, runRefusal}
 use Rattle.instants.proofs.FirstRefusal.{none-answered, refused-first, first-none}
@@ -35,8 +35,8 @@ module _ (c : tie.After-acceptance-refusal) where
   abbrev s : tie.Start
   s = stepped .before .before
 
-  says : c .acceptance-refusal .result ≡ acceptanceRefusal (acceptance (s .args .day) (s .args .micros))
-  says = c .acceptance-refusal .ensures ∙ ap acceptanceRefusal (c .before .accept .ensures ∙ ap (λ (d : ℤ). acceptance d (s .args .micros)) (toZ-ofZ (s .fits .day)))
+  says : c .acceptance-refusal .result ≡ acceptanceRefusalOf (acceptance (s .args .day) (s .args .micros))
+  says = c .acceptance-refusal .ensures ∙ ap acceptanceRefusalOf (c .before .accept .ensures ∙ ap (λ (d : ℤ). acceptance d (s .args .micros)) (toZ-ofZ (s .fits .day)))
 
   counted : Counted (s .args .count) (s .args .step)
   counted =
@@ -78,7 +78,7 @@ module _ (c : tie.After-acceptance-refusal2) where
   last : c .acceptance-refusal2 .result ≡ firstRefusal (case 8 past ∷ [])
   last =
       c .acceptance-refusal2 .ensures
-      ∙ (ap acceptanceRefusal
+      ∙ (ap acceptanceRefusalOf
       (c .before .accept2 .ensures
       ∙ (ap (λ (i : Instant). acceptance (toZ w64 (ofZ w64 (i .day))) (i .micros)) (looked .later .ensures ∙ ap (λ (z : ℤ). laterInstant z (b .args .micros) (t e)) (toZ-ofZ (b .fits .day)))
       ∙ ap (λ (z : ℤ). acceptance z (laterMicros (b .args .micros) (t e))) (toZ-ofZ (day-fits (b .args .day) (b .args .micros) (t e) (accepted e) (few e)))))

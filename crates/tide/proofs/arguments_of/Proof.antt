@@ -1,6 +1,6 @@
 -- `tide::arguments_of` meets its contract: the five polynomials are what `quartic` ensures, and the rest is the definition. Assumes nothing.
 use lib.Ieee.{neg, ofInt, ofBits}
-use Rattle.tide.specs.Binary64.{decimal}
+use Rattle.tide.specs.Binary64.{decimal64}
 use Rattle.tide.specs.Delaunay.{F1, F2, F3, F4, F5, FD1, FD2, FD3, FD4, FD5}
 use Rattle.tide.specs.Tidal.{argumentsOf}
 use borrow.Author.Needs.{needs}
@@ -23,7 +23,7 @@ quartic-requires-5 : tie.Need-quartic-requires-5
 quartic-requires-5 c κs = search needs
 
 returns : tie.Need-returns
-unfolding argumentsOf F1 F2 F3 F4 F5 FD1 FD2 FD3 FD4 FD5 decimal ofInt ofBits neg
+unfolding argumentsOf F1 F2 F3 F4 F5 FD1 FD2 FD3 FD4 FD5 decimal64 ofInt ofBits neg
 returns c =
     let four = c .before in
     let three = four .before in

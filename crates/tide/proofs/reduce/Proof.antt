@@ -1,7 +1,7 @@
 -- `tide::reduce` meets its contract, by the test of the definition. Assumes nothing.
 use borrow.Author.Needs.{needs}
 use lib.Ieee.{ofInt, ofBits}
-use Rattle.tide.specs.Tidal.{raised, reduced, turn}
+use Rattle.tide.specs.Tidal.{raised, reduced, turn64}
 use Rattle.tide.proofs.reduce.Statement.{statement}
 use Rattle.tide.proofs.reduce.Tie as tie
 
@@ -12,11 +12,11 @@ settle-requires-2 : tie.Need-settle-requires-2
 settle-requires-2 c κs = search needs
 
 returns : tie.Need-returns
-unfolding reduced raised turn ofInt ofBits
+unfolding reduced raised turn64 ofInt ofBits
 returns c = rw (c .before .if1 .taken) (c .settle .ensures)
 
 returns-2 : tie.Need-returns-2
-unfolding reduced raised turn ofInt ofBits
+unfolding reduced raised turn64 ofInt ofBits
 returns-2 c = rw (c .before .if1 .left) (c .settle2 .ensures)
 
 pub reduce-spec : {M : Type 1} → statement M

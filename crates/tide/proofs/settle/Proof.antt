@@ -1,19 +1,19 @@
 -- `tide::settle` meets its contract, by the two tests of the definition. Assumes nothing.
 use lib.Ieee.{ofInt, ofBits}
-use Rattle.tide.specs.Tidal.{settled, turn}
+use Rattle.tide.specs.Tidal.{settled, turn64}
 use Rattle.tide.proofs.settle.Statement.{statement}
 use Rattle.tide.proofs.settle.Tie as tie
 
 returns : tie.Need-returns
-unfolding settled turn ofInt ofBits
+unfolding settled turn64 ofInt ofBits
 returns c = rw (c .before .if1 .taken, c .if2 .taken)
 
 returns-2 : tie.Need-returns-2
-unfolding settled turn ofInt ofBits
+unfolding settled turn64 ofInt ofBits
 returns-2 c = rw (c .before .if1 .taken, c .if2 .left)
 
 returns-3 : tie.Need-returns-3
-unfolding settled turn ofInt ofBits
+unfolding settled turn64 ofInt ofBits
 returns-3 c = rw (c .if1 .left)
 
 pub settle-spec : {M : Type 1} → statement M

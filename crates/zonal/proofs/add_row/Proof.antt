@@ -11,7 +11,7 @@ use lib.ListN.{getD}
 use borrow.Author.Needs.{needs}
 use Rattle.zonal.specs.Coefficients.{coefficients}
 use Rattle.zonal.proofs.Coefficients.{coefficient-small}
-use Rattle.zonal.specs.Exact.{rows, coefficient}
+use Rattle.zonal.specs.Exact.{rowCount, coefficient}
 use Rattle.zonal.specs.Inner.{term, sumMost, RowBounds}
 use Rattle.algebra.proofs.Bits.{readBack, InBits, bits-fit, bits-back, bits-given, bits-times, bits-plus}
 use Rattle.zonal.proofs.add_row.Statement.{statement}
@@ -25,7 +25,7 @@ cell t r j = readBack (getD (getD t r []) j (pos 0))
 abbrev productBound : ℕ
 productBound = 2 ^ 24 * 2 ^ 32
 
-product : {t : List (List ℤ)} (r j : ℕ) (p : ℤ) → t ≡ coefficients → r < rows → natAbs p < 2 ^ 32 → InBits (cell t r j *ℤ readBack p) (coefficient r j *ℤ p) productBound
+product : {t : List (List ℤ)} (r j : ℕ) (p : ℤ) → t ≡ coefficients → r < rowCount → natAbs p < 2 ^ 32 → InBits (cell t r j *ℤ readBack p) (coefficient r j *ℤ p) productBound
 product r j p e h k =
     let g = bits-given (coefficient r j) (2 ^ 24) (coefficient-small r h j) (lit≤ tt) in
     bits-times (record { is = ap (λ (l : List (List ℤ)). cell l r j) e ∙ g .is; most = g .most; room = g .room }) (bits-given p (2 ^ 32) (le-of-lt k) (lit≤ tt)) (lit≤ tt)

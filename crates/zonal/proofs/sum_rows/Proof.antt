@@ -16,13 +16,13 @@ use mir.Val.{toZ}
 use borrow.Author.Needs.{needs}
 use Rattle.arguments.specs.Table.{multipliers}
 use Rattle.zonal.specs.Coefficients.{coefficients}
-use Rattle.arguments.specs.Ours.{ourAngle, ourArguments, columns}
+use Rattle.arguments.specs.Ours.{ourRowAngle, ourArguments, columns}
 use Rattle.arguments.proofs.Bounds.{arguments-less}
 use Rattle.arguments.proofs.Distance.{our-angle-less}
 use Rattle.sine.specs.Ours.{ourSine, ourCosine}
 use Rattle.sine.proofs.Sizes.{sineMost}
 use Rattle.zonal.specs.declared.Sums.{Sums}
-use Rattle.zonal.specs.Exact.{rows}
+use Rattle.zonal.specs.Exact.{rowCount}
 use Rattle.zonal.specs.Ours.{rowSine, rowCosine}
 use Rattle.zonal.specs.Inner.{term, sumMost, RowBounds, sumsAt}
 use Rattle.zonal.proofs.Weighted.{weighted, weighted-zero, weighted-next, ut1-is, lod-is, rate-is}
@@ -42,14 +42,14 @@ abbrev rateAt : ℕ → ℕ → ℤ
 rateAt x k = weighted (rowCosine x) (rowSine x) 4 k
 
 abbrev Inv-loop : tie.InvT-loop
-Inv-loop k t x a ut1₀ lod₀ rate₀ row₀ ut1 lod rate row = (row ≤ rows) × (toZ w64 ut1 ≡ ut1At x row) × (toZ w64 lod ≡ lodAt x row) × (toZ w64 rate ≡ rateAt x row)
+Inv-loop k t x a ut1₀ lod₀ rate₀ row₀ ut1 lod rate row = (row ≤ rowCount) × (toZ w64 ut1 ≡ ut1At x row) × (toZ w64 lod ≡ lodAt x row) × (toZ w64 rate ≡ rateAt x row)
 
 abbrev μ-loop : tie.MeasureT-loop
-μ-loop k t x a ut1₀ lod₀ rate₀ row₀ ut1 lod rate row = rows - row
+μ-loop k t x a ut1₀ lod₀ rate₀ row₀ ut1 lod rate row = rowCount - row
 
 -- ---- one more row of a sum: v is the sum before, and y and z are what its coefficients go with
 
-module _ (p q : ℕ → ℤ) (j r : ℕ) (hp : (r : ℕ) → natAbs (p r) ≤ sineMost) (hq : (r : ℕ) → natAbs (q r) ≤ sineMost) (h : r < rows)
+module _ (p q : ℕ → ℤ) (j r : ℕ) (hp : (r : ℕ) → natAbs (p r) ≤ sineMost) (hq : (r : ℕ) → natAbs (q r) ≤ sineMost) (h : r < rowCount)
     {v y z : ℤ} (ev : v ≡ weighted p q j r) (ey : y ≡ p r) (ez : z ≡ q r) where
   below : {b : ℕ} {x w : ℤ} → x ≡ w → natAbs w ≤ b → natAbs x ≤ b
   below e l = le-trans (le-of-eq (ap natAbs e)) l
@@ -71,7 +71,7 @@ module _ (p q : ℕ → ℤ) (j r : ℕ) (hp : (r : ℕ) → natAbs (p r) ≤ si
 
 -- ---- the angle, the sine and the cosine of the row
 
-angle-is : {a : List ℕ} (x r b : ℕ) → b ≡ columns (getD multipliers r []) a % 2 ^ 41 → a ≡ ourArguments x → b % 2 ^ 41 ≡ ourAngle r x
+angle-is : {a : List ℕ} (x r b : ℕ) → b ≡ columns (getD multipliers r []) a % 2 ^ 41 → a ≡ ourArguments x → b % 2 ^ 41 ≡ ourRowAngle r x
 angle-is x r b e h = ap (λ (n : ℕ). n % 2 ^ 41) (e ∙ ap (λ (l : List ℕ). columns (getD multipliers r []) l % 2 ^ 41) h) ∙ N.mod-eq-of-lt (our-angle-less r x)
 
 -- the places: the entry as it is seen from the loop, and in a turn of the loop its body, the angle's call and the loop's test
@@ -97,10 +97,10 @@ module _ (c : tie.After-cosine Inv-loop μ-loop) where
   table : entry so-far .args .t .now ≡ coefficients
   table = entry so-far .pre .1 .0
 
-  taken : row < rows
+  taken : row < rowCount
   taken = body .loop-test .taken
 
-  angle : angled .angle .result % 2 ^ 41 ≡ ourAngle row x
+  angle : angled .angle .result % 2 ^ 41 ≡ ourRowAngle row x
   angle = angle-is x row (angled .angle .result) (angled .angle .ensures) (so-far .before .arguments .ensures)
 
   sine : readBack (c .before .sine .result) ≡ rowSine x row
@@ -164,7 +164,7 @@ unfolding sumsAt
 returns c =
     let x = entry (c .before) .args .x in
     let i = c .before .loop .inv in
-    let done : c .before .loop .row ≡ rows = omega arith in
+    let done : c .before .loop .row ≡ rowCount = omega arith in
     same (i .1 ∙ ap (ut1At x) done ∙ sym (ut1-is (rowSine x) (rowCosine x))) (i .2 ∙ ap (lodAt x) done ∙ sym (lod-is (rowSine x) (rowCosine x))) (i .3 ∙ ap (rateAt x) done ∙ sym (rate-is (rowSine x) (rowCosine x)))
 
 pub sum-rows-spec : {M : Type 1} → statement M
