@@ -50,7 +50,7 @@ centuries-le x h = bound (Nat.mul-le-mul-right perCentury h)
     bound : x * perCentury ≤ latest * perCentury → x * perCentury / 2 ^ 64 ≤ centuriesMost
     bound k = omega arith
 
--- the upper half of a product is at most either factor
+-- the upper half of a product with a number of 64 bits is at most the other factor
 pub high-le : (x g : ℕ) → g < 2 ^ 64 → high x g ≤ x
 high-le x g h = bound (Nat.mul-le-mul-left x (Nat.le-of-lt h))
   where

@@ -1,4 +1,4 @@
-// Time, the five Delaunay arguments and the angle of each row of the zonal table, in whole numbers.
+// The five Delaunay arguments and the angle of each row of the zonal table, in whole numbers.
 // Their distance from the exact angles is proved in proofs/Distance.antt.
 ghost use mathlib.Core.Path.{_≡_};
 ghost use Prim.Native.Nat.{ℕ, _+_, _*_, _-_, _/_, _%_, _^_, _≤_, _<_};

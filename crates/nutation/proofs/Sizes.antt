@@ -1,4 +1,5 @@
 -- How large the numbers are that the code computes, so that none passes 64 bits, and its quotients, which are taken in two steps.
+-- A product is bounded by its factors' bounds, a sum by its terms'; a quotient by the microseconds of p days is taken by those of one day, then by p.
 -- Assumes nothing.
 use mathlib.Core.Path.{_≡_, refl, sym, _∙_, ap}
 use Prim.Native.Nat.{ℕ, _+_, _*_, _-_, _/_, _%_, _^_, _≤_, _<_}

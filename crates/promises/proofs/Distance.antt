@@ -1,4 +1,4 @@
--- Demand 3 holds. Assumes nothing.
+-- Demand 3 holds. Each field is proved from the theorem of its service that docs/PROMISES.md names. Assumes nothing.
 use mathlib.Core.Path.{sym}
 use Rattle.instants.proofs.Moments.{accepted-moment}
 use Rattle.rows.proofs.Places.{row-date}

@@ -1,4 +1,4 @@
--- Demand 2 holds. Assumes nothing.
+-- Demand 2 holds. Each field is proved from the theorem of its service that docs/PROMISES.md names. Assumes nothing.
 use Rattle.calendar.proofs.Inverse.{there-and-back, back-and-there, has-date, next-date}
 use Rattle.calendar.proofs.Times.{instant-accepted}
 use Rattle.clock.proofs.Words.{split-accepted, split-then-join, JoinedExactly, joined-exactly}

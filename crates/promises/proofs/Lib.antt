@@ -1,4 +1,4 @@
--- A proof of each demand, from the theorems of the services.
+-- AnyInput, Exactness, Distance: a proof of each demand, from the theorems of the services.
 pub mod AnyInput
 pub mod Exactness
 pub mod Distance

@@ -1,4 +1,5 @@
--- The rules of a table as a test that computes, the built-in rows, and a table that is lent.
+-- The rules of a table as a test that computes, the built-in rows, and a table that is lent. With the count of rows, a test of each row's limits and
+-- of each two neighbours' days says the rules; rows that are written as numbers and read back are the same.
 -- Assumes nothing.
 use mathlib.Core.Path.{_≡_, refl, sym, _∙_, ap, subst}
 use mathlib.Core.Bool.{Bool, true, _&&_}

@@ -1,4 +1,5 @@
--- The numbers of a line are below 10^10. Assumes nothing.
+-- The numbers of a line are below 10^10: a digit more makes a number ten times as large and adds at most nine, and there are at most ten.
+-- Assumes nothing.
 use Prim.Native.Nat.{ℕ, _+_, _-_, _*_, _^_, _<_}
 use mathlib.Core.Path.{_≡_, refl}
 use mathlib.Core.Bool.{Bool, true, false}

@@ -70,10 +70,10 @@ fold-scale c {P} {A} {z} (back h k e) =
     alg : (c a p : ℤ) → c *ℤ (a -ℤ pos 4 *ℤ p) ≡ c *ℤ a -ℤ pos 4 *ℤ (c *ℤ p)
     alg c a p = ring (c ▸ a ▸ p ▸ end) (search quote depth 13) tt
 
--- it is at most a quarter
 abs-diff : (u d e : ℕ) → u ≤ d + e → d ≤ u + e → natAbs (pos u -ℤ pos d) ≤ e
 abs-diff u d e h k = near-of {x = pos u} {y = pos d} {e = e} (of-ℕ (search linear) (omega arith)) (of-ℕ (search linear) (omega arith)) .by
 
+-- the fold is at most a quarter
 pub fold-small : {P A : ℕ} {z : ℤ} → Fold P A z → natAbs z ≤ P
 fold-small {P} {A} (rise h e) = N.le-trans (N.le-of-eq (ap natAbs e)) (abs-diff A 0 P (omega arith) (omega arith))
 fold-small {P} {A} (fall h k e) = N.le-trans (N.le-of-eq (ap natAbs e)) (abs-diff (2 * P) A P (omega arith) (omega arith))

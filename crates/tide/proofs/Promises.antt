@@ -1,4 +1,5 @@
--- What is promised of the frequency and the phase. Assumes nothing.
+-- What is promised of the frequency and the phase. Beside a refusal both are +0; else the phase is reduced (Range), and the frequency is a sum of
+-- bounded numbers (Sums). Assumes nothing.
 use mathlib.Core.Path.{_≡_, refl}
 use mathlib.Core.Bool.{Bool, true, false, not}
 use Prim.Native.Nat.{ℕ}

@@ -1,6 +1,7 @@
 -- The definitions at the test case of RG_ZONT2, day 54465, microsecond 0, computed; and that no constant is within the promised distances.
+-- Numbers within the promised distances on a day are near ours, since both are near the exact sums, and ours of two days are farther apart.
 -- Assumes nothing.
-use mathlib.Core.Path.{_≡_, refl, ap, subst}
+use mathlib.Core.Path.{_≡_, refl, subst}
 use mathlib.Core.Bool.{_&&_}
 use Prim.Native.Nat.{ℕ, _+_}
 use native.Mathlib.Nat as N
@@ -16,12 +17,11 @@ use Rattle.instants.specs.Moments.{sinceJ2000}
 use Rattle.sine.specs.Exact.{S, sineDen, wholeTurn, exactSine, exactCosine}
 use Rattle.sine.specs.Ours.{alternating, sineQuarter, quarterTurn, ourSine, ourCosine}
 use Rattle.zonal.specs.declared.Corrections.{Corrections}
-use Rattle.zonal.specs.declared.ZonalAnswer.the-variants.{Zonal}
 use Rattle.zonal.specs.Exact.{ut1Sum, lodSum, rateSum, denominator, exactUt1, exactLod, exactRate}
-use Rattle.zonal.specs.Ours.{corrections, correctionsAt, zonalOf}
+use Rattle.zonal.specs.Ours.{corrections, correctionsAt}
 use Rattle.zonal.specs.Within.{promised, Within}
 use Rattle.zonal.proofs.Distance.{proved}
-use Rattle.zonal.proofs.Promises.{accepted-near, accepted-given}
+use Rattle.zonal.proofs.Promises.{accepted-near}
 
 -- ---- the test case
 
@@ -55,11 +55,6 @@ our-case = refl
 our-next : correctionsAt 149019 0 ≡ corrections (+ 79837323) (− 67358353) (+ 5684997)
 unfolding correctionsAt ut1Sum lodSum rateSum ourSine ourCosine wholeTurn quarterTurn sineQuarter alternating
 our-next = refl
-
--- our answer to the test case of RG_ZONT2
-pub case-answered : zonalOf (+ 54465) 0 ≡ Zonal (corrections (+ 79832877) (+ 50353031) (− 4249712))
-unfolding dayIndex
-case-answered = rw (accepted-given (+ 54465) 0 case-accepted) (ap Zonal our-case)
 
 -- ---- constants
 

@@ -37,11 +37,11 @@ time-of-requires : tie.Need-time-of-requires
 time-of-requires c κs = search needs
 
 returns : tie.Need-returns
-returns c = rw (← matched, sym (c .before .before .before .day-of .ensures) ∙ c .before .n .given .1)
+returns c = let k : tie.After-day-of = c .before .before .before in rw (← matched, sym (k .day-of .ensures) ∙ c .before .n .given .1)
 
 returns-2 : tie.Need-returns-2
 returns-2 c =
-    let k = c .before .before .before .before in
+    let k : tie.After-day-of = c .before .before .before .before in
     let a = k .before .args in
     rw (← matched, sym (k .day-of .ensures) ∙ c .before .before .d .given .1)
     (c .time-of .ensures ∙ ap (λ (d : ℤ). timeOf d (a .hour) (a .minute) (a .second) (a .microsecond)) (toZ-ofZ (search needs)))

@@ -59,7 +59,7 @@ returns c = let k = known (c .before) in simp (k .inside, k .within, marked (c .
 
 returns-2 : tie.Need-returns-2
 unfolding joinOf
-returns-2 c = refused-too NoJoin _ _ _ (sym (says (c .before .before .before)) ∙ c .before .n .given .1)
+returns-2 c = let q : tie.After-accept = c .before .before .before in refused-too NoJoin _ _ _ (sym (says q) ∙ c .before .n .given .1)
 
 returns-3 : tie.Need-returns-3
 unfolding joinOf

@@ -60,7 +60,7 @@ add-t10 c = omega (arith, known c .less)
 
 returns : tie.Need-returns
 unfolding splitOf
-returns c = refused-too NoSplit _ _ _ (sym (says (c .before .before .before)) ∙ c .before .n .given .1)
+returns c = let q : tie.After-accept = c .before .before .before in refused-too NoSplit _ _ _ (sym (says q) ∙ c .before .n .given .1)
 
 returns-2 : tie.Need-returns-2
 unfolding splitOf

@@ -74,7 +74,7 @@ offsets-of-requires c κs =
 
 returns : tie.Need-returns
 unfolding nutationOf
-returns c = refused-too NoNutation _ _ _ (sym (says (c .before .before .before)) ∙ c .before .n .given .1)
+returns c = let q : tie.After-accept = c .before .before .before in refused-too NoNutation _ _ _ (sym (says q) ∙ c .before .n .given .1)
 
 returns-2 : tie.Need-returns-2
 unfolding nutationOf

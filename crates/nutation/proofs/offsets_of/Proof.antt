@@ -24,8 +24,11 @@ use Rattle.nutation.proofs.offsets_of.Tie as tie
 -- ---- behind the sine: the place, the moment, the angle, and what the callees gave
 
 module _ (c : tie.After-sine) where
+  abbrev asked : tie.After-amplitudes-at
+  asked = c .before .before .before
+
   abbrev entry : tie.Start
-  entry = c .before .before .before .before
+  entry = asked .before
 
   abbrev place : Place
   place = entry .args .p
@@ -37,10 +40,10 @@ module _ (c : tie.After-sine) where
   angle = ourAngle x
 
   abbrev given : Amplitudes
-  given = c .before .before .before .amplitudes-at .result
+  given = asked .amplitudes-at .result
 
   given-is : given ≡ amplitudes place x
-  given-is = c .before .before .before .amplitudes-at .ensures
+  given-is = asked .amplitudes-at .ensures
 
   -- what the machine reads back of the amplitudes, the cosine and the sine
   xc-is : toZ w64 (ofZ w64 (given .xc)) ≡ ourXC place x
@@ -113,7 +116,8 @@ sub-offset-of c = let a = waves (c .before .before) in rw (xc-is a) (minus-fits 
 
 offset-of-requires-2 : tie.Need-offset-of-requires-2
 offset-of-requires-2 c κs =
-    let a = waves (c .before .before .before) in
+    let f : tie.After-offset-of = c .before .before .before in
+    let a = waves f in
     rw (xc-is a, xs-is a, cos-is a, sin-is a, ys-is a) (record { c-small = xs-small a; s-small = ys-small a; cos-small = cosine-below (angle a); sin-small = sine-below (angle a) })
 
 uncertainty-of-requires : tie.Need-uncertainty-of-requires

@@ -22,7 +22,7 @@ uncertainty-mixed-requires c κs = search needs
 
 returns : tie.Need-returns
 returns c =
-    let s = c .before .before .before .before in
+    let s : tie.Start = c .before .before .before .before in
     c .uncertainty-mixed .ensures
     ∙ ap (λ (k : ℕ). twiceBetween (s .args .a .uncertainty) (s .args .b .uncertainty) ((s .args .b .day - s .args .a .day) * dayMicros) (s .args .x - k)) (c .before .row-moment .ensures)
     ∙ sym (between-is (s .args .a) (s .args .b) (s .args .x) (s .pre .2))

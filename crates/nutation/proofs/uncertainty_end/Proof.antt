@@ -30,7 +30,7 @@ add-result c = search needs
 
 returns : tie.Need-returns
 returns c =
-    let s = c .before .before .before .before in
+    let s : tie.Start = c .before .before .before .before in
     let q : c .before .apart .result ≡ dist (s .args .x) (rowMoment (s .args .r)) = c .before .apart .ensures ∙ ap (λ (k : ℕ). dist (s .args .x) k) (c .before .before .row-moment .ensures) in
     ap (λ (k : ℕ). 20 * s .args .r .uncertainty + k) (c .round-up .ensures ∙ ap (λ (k : ℕ). roundUp (265 * k) dayMicros) q) ∙ sym (end-is (s .args .r) (s .args .x))
 

@@ -22,9 +22,12 @@ abbrev μ-loop : tie.MeasureT-loop
 
 -- ---- places of the code
 
--- the loop's head, from within a round and from behind the loop
+-- the first place of a round and the loop's head, from within the round; the entry, from the loop's head
+abbrev round : tie.After-row-moment Inv-loop μ-loop → tie.In-loop Inv-loop μ-loop
+round c = c .before .before
+
 abbrev head : tie.After-row-moment Inv-loop μ-loop → tie.At-loop Inv-loop μ-loop
-head c = c .before .before .before
+head c = round c .before
 
 abbrev entry : tie.At-loop Inv-loop μ-loop → tie.Start Inv-loop μ-loop
 entry c = c .before
@@ -57,7 +60,7 @@ returns : tie.Need-returns Inv-loop μ-loop
 returns c =
     let h = head (c .before) in
     record {
-      within = omega (arith, rows-length (entry h .args .t .now), c .before .before .before .loop-test .taken);
+      within = omega (arith, rows-length (entry h .args .t .now), round (c .before) .loop-test .taken);
       low = h .loop .inv .1;
       high = lt-of-lt-of-le (c .if1 .taken) (le-of-eq (next-date (c .before)));
     }
@@ -69,7 +72,7 @@ loop-less : tie.Need-loop-less Inv-loop μ-loop
 loop-less c = omega arith
 
 loop-again : tie.Need-loop-again Inv-loop μ-loop
-loop-again c = (omega (arith, c .before .before .before .loop-test .taken), le-trans (le-of-eq (sym (next-date (c .before)))) (c .if1 .left))
+loop-again c = (omega (arith, round (c .before) .loop-test .taken), le-trans (le-of-eq (sym (next-date (c .before)))) (c .if1 .left))
 
 returns-2 : tie.Need-returns-2 Inv-loop μ-loop
 returns-2 c =

@@ -17,7 +17,7 @@ use borrow.Author.Needs.{needs}
 use Rattle.rows.proofs.place_at.Statement.{statement}
 use Rattle.rows.proofs.place_at.Tie as tie
 
--- ---- places of the code: the start, as it stands behind the first row's test and behind the last row's
+-- ---- places of the code: the entry, from the first row's date; past the first test, from the last row's date
 
 abbrev entry : tie.After-row-moment → tie.Start
 entry c = c .before .before
@@ -90,7 +90,10 @@ add-row-at : tie.Need-add-row-at
 add-row-at c = search needs
 
 row-at-requires-4 : tie.Need-row-at-requires-4
-row-at-requires-4 c κs = let s = entry (past-first (c .before .before .before) .before) in (omega (arith, c .before .lookup .ensures .within, size s), s .pre)
+row-at-requires-4 c κs =
+    let l : tie.After-lookup = c .before in
+    let s = entry (past-first (l .before .before) .before) in
+    (omega (arith, l .lookup .ensures .within, size s), s .pre)
 
 returns-3 : tie.Need-returns-3
 returns-3 c =

@@ -22,6 +22,14 @@ use borrow.Author.Needs.{needs}
 use Rattle.run_line.proofs.answer.Statement.{statement}
 use Rattle.run_line.proofs.answer.Tie as tie
 
+-- ---- the places, from later to earlier
+
+abbrev entry : tie.After-parse → tie.Start
+entry c = c .before .before .before
+
+abbrev dated : tie.After-d → tie.After-day-of
+dated c = c .before .before
+
 -- where the line was parsed, and its date looked at
 module _ (c : tie.After-day-of) where
   abbrev found : tie.After-l
@@ -31,7 +39,7 @@ module _ (c : tie.After-day-of) where
   parsed = found .before .before
 
   abbrev s : tie.Start
-  s = parsed .before .before .before
+  s = entry parsed
 
   abbrev l : Line
   l = found .l .given .0 .0
@@ -58,17 +66,17 @@ enum-known-d : tie.Need-enum-known-d
 enum-known-d c = search needs
 
 day-run-requires : tie.Need-day-run-requires
-day-run-requires c κs = let a = c .before .before .before .before in step-small (now (s a .args .s)) (l a) (is-line a)
+day-run-requires c κs = let a = dated (c .before .before) in step-small (now (s a .args .s)) (l a) (is-line a)
 
 returns : tie.Need-returns
 returns c =
-    let p = c .before .before in
-    let b = p .before .before .before in
+    let p : tie.After-parse = c .before .before in
+    let b = entry p in
     bad (now (b .args .s)) (now (b .args .buffer)) (sym (p .parse .ensures) ∙ c .enum-told .given .1)
 
 returns-2 : tie.Need-returns-2
 returns-2 c =
-    let a = c .before .before .before in
+    let a : tie.After-day-of = c .before .before .before in
     no-date (now (s a .args .s)) (now (s a .args .buffer)) (l a) (is-line a) _ (sym (a .day-of .ensures) ∙ c .before .n .given .1)
 
 same-length : tie.Need-same-length
@@ -77,8 +85,8 @@ same-length c = search needs
 returns-3 : tie.Need-returns-3
 returns-3 c =
     let w = c .before .before in
-    let k = w .before .before .before in
-    let a = k .before .before in
+    let k : tie.After-d = w .before .before .before in
+    let a = dated k in
     let d = k .d .given .0 .0 in
     let e : toZ w64 (ofZ w64 d) ≡ d = toZ-ofZ (search needs) in
     let p = on-date (now (s a .args .s)) (now (s a .args .buffer)) (l a) (is-line a) d (sym (a .day-of .ensures) ∙ k .d .given .1) in (

@@ -19,10 +19,11 @@ signed-requires c κs = search needs
 
 returns : tie.Need-returns
 returns c =
+    let s : tie.Start = c .before .before .before in
     let l = c .before .before .lowered in
     let h = c .before .sine-half in
     toZ-ofZ (search needs)
-    ∙ whole-by (c .before .before .before .args .b % 2 ^ 41) (l .result) (h .result) (c .signed .result) (l .ensures .0) (l .ensures .1 .0) (h .ensures .0) (c .signed .ensures .0) (c .signed .ensures .1)
+    ∙ whole-by (s .args .b % 2 ^ 41) (l .result) (h .result) (c .signed .result) (l .ensures .0) (l .ensures .1 .0) (h .ensures .0) (c .signed .ensures .0) (c .signed .ensures .1)
 
 pub sine-spec : {M : Type 1} → statement M
 sine-spec = tie.close (tie.spec lowered-requires sine-half-requires signed-requires returns)

@@ -23,7 +23,8 @@ arguments-of-requires c κs = search needs
 returns : tie.Need-returns
 unfolding argumentsAt
 returns c =
-    let e = toZ-ofZ (c .before .before .before .fits .day) in
+    let s : tie.Start = c .before .before .before in
+    let e = toZ-ofZ (s .fits .day) in
     rw (c .arguments-of .ensures, c .before .julian-centuries .ensures, e, c .before .before .day-fraction .ensures)
 
 pub arguments-at-spec : {M : Type 1} → statement M

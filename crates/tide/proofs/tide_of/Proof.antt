@@ -51,7 +51,7 @@ returns c =
 
 returns-2 : tie.Need-returns-2
 unfolding tideOf
-returns-2 c = refused-too NoTide _ _ _ (sym (says (c .before .before .before)) ∙ c .before .n .given .1)
+returns-2 c = let q : tie.After-accept = c .before .before .before in refused-too NoTide _ _ _ (sym (says q) ∙ c .before .n .given .1)
 
 pub tide-of-spec : {M : Type 1} → statement M
 tide-of-spec =

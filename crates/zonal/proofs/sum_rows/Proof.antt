@@ -149,7 +149,7 @@ loop-less c = omega arith
 
 loop-again : tie.Need-loop-again Inv-loop μ-loop
 loop-again b =
-    let c = b .before .before .before in (
+    let c : tie.After-cosine Inv-loop μ-loop = b .before .before .before in (
       omega arith,
       next (rowSine (x c)) (rowCosine (x c)) 0 (row c) (sine-most (x c)) (cosine-most (x c)) (taken c) (so-far c .loop .inv .1) (sine c) (cosine c) (b .before .before .add-row .ensures),
       next (rowCosine (x c)) (rowSine (x c)) 2 (row c) (cosine-most (x c)) (sine-most (x c)) (taken c) (so-far c .loop .inv .2) (cosine c) (sine c) (b .before .add-row2 .ensures),

@@ -48,7 +48,7 @@ corrections-at-requires c κs = (omega (arith, known c .high), known c .less)
 
 returns : tie.Need-returns
 unfolding zonalOf
-returns c = refused-too NoZonal _ _ _ (sym (says (c .before .before .before)) ∙ c .before .n .given .1)
+returns c = let q : tie.After-accept = c .before .before .before in refused-too NoZonal _ _ _ (sym (says q) ∙ c .before .n .given .1)
 
 returns-2 : tie.Need-returns-2
 unfolding zonalOf

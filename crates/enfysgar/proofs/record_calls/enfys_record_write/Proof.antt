@@ -13,7 +13,7 @@ same-length c = search needs
 returns : tie.Need-returns
 returns c =
     let w = c .before .before in
-    let s = w .before .before .before in
+    let s : tie.Start = w .before .before .before in
     simp (toZ-ofZ (s .fits .day), toZ-ofZ (s .fits .ut1), toZ-ofZ (s .fits .lod), toZ-ofZ (s .fits .rate)) at (w .write .ensures)
 
 pub enfys-record-write-spec : {M : Type 1} → statement M

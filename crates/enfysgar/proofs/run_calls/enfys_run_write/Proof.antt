@@ -13,7 +13,7 @@ same-length c = search needs
 returns : tie.Need-returns
 returns c =
     let w = c .before .before in
-    let s = w .before .before .before in
+    let s : tie.Start = w .before .before .before in
     simp (toZ-ofZ (s .fits .day)) at (w .write .ensures)
 
 pub enfys-run-write-spec : {M : Type 1} → statement M
