@@ -1,4 +1,4 @@
--- Every reference interpolated holds of the definitions. Assumes nothing.
+-- Every reference value holds of the definitions. Assumes nothing.
 use mathlib.Core.Path.{refl}
 use Rattle.instants.specs.Instants.{outside, dayIndex, acceptance, dayAtIndex}
 use Rattle.calendar.specs.Dates.{leapYear, monthLengths, monthLength, sum, yearLength, daysOfYears, daysBefore, dateIndex, dayOf}
