@@ -20,11 +20,11 @@ use Rattle.record.specs.Format.{recordLength, version, lengthField, vers
 abbrev pub recordWith : ℤ → ℕ → (ut1 lod rate : ℤ) → Record
 recordWith d m ut1 lod rate = record { day = d; micros = m; ut1 = ut1; lod = lod; rate = rate }
 
--- ---- writing
-
--- the refusal of a buffer of n bytes
+-- the refusal of n bytes, to write into or to read: a record needs thirty
 abbrev pub roomCases : ℕ → List Case
 roomCases n = case 12 (ltb n recordLength) ∷ []
+
+-- ---- writing
 
 -- the refusals of a record of the instant d, m in n bytes: of the instant, and of the buffer
 abbrev pub writeCases : ℤ → ℕ → ℕ → List Case

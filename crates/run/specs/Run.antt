@@ -30,7 +30,7 @@ badStep step = ltb step 1 || ltb dayMicros step
 abbrev pub endCases : ℤ → ℕ → (count step n : ℕ) → List Case
 endCases d m count step n = case 8 (ltZ lastDay (laterDay d m ((count - 1) * step))) ∷ case 12 (ltb n (recordLength * count)) ∷ []
 
--- the refusals of a run from the instant d, m into a buffer of n bytes
+-- the refusals of a run from the instant d, m into a buffer of n bytes: of its count, its step and its start, and then those
 abbrev pub runCases : ℤ → ℕ → (count step n : ℕ) → List Case
 runCases d m count step n = case 17 (badCount count) ∷ case 18 (badStep step) ∷ instantCases d m ++ endCases d m count step n
 
