@@ -31,6 +31,11 @@ pub front-take : (b old : List ℕ) (n : ℕ) → length b ≡ n → take n (atF
 unfolding atFront
 front-take b old n e = take-at b _ n e
 
+-- they are all there
+pub front-within : (b old : List ℕ) → length b ≤ length (atFront b old)
+unfolding atFront
+front-within b old = simp length-append (omega arith)
+
 -- what is behind is as it was
 pub front-behind : (b old : List ℕ) (n : ℕ) → length b ≡ n → drop n (atFront b old) ≡ drop n old
 front-behind b old n e = rw (front-is b old n e) (drop-at b (drop n old) n e)

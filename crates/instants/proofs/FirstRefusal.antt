@@ -1,6 +1,6 @@
 -- Laws of the refusals in their order, by induction on the list: a case applies, and then its refusal is the answer on both sides, or it does not, and
 -- the rest of the list decides. Assumes nothing.
-use Prim.Native.Nat.{ℕ}
+use Prim.Native.Nat.{ℕ, _<_}
 use mathlib.Core.Path.{_≡_, refl, ap}
 use mathlib.Core.Bool.{Bool, true, false, cond, _&&_}
 use mathlib.Core.List.{List, [], _∷_, _++_}
@@ -72,3 +72,18 @@ first-none (c ∷ cs) h e = by (c .applies) refl (ltb 0 (c .number)) refl h e (f
         → (T (numbered cs) → firstRefusal cs ≡ 0 → NoneApplies cs) → (c .applies ≡ false) × NoneApplies cs
     by true p true q h e f = let v : ⊥ = omega (arith, ltb-true 0 (c .number) q) in absurd v
     by false p true q h e f = (p, f h e)
+
+-- every number is below b
+abbrev pub numbersBelow : ℕ → List Case → Bool
+numbersBelow b [] = true
+numbersBelow b (c ∷ cs) = ltb (c .number) b && numbersBelow b cs
+
+-- and so is the first refusal
+pub first-below : (b : ℕ) (cs : List Case) → 0 < b → T (numbersBelow b cs) → firstRefusal cs < b
+first-below b [] h k = h
+first-below b (c ∷ cs) h k = by (c .applies) (ltb (c .number) b) refl k (first-below b cs h)
+  where
+    by : (applies x : Bool) → ltb (c .number) b ≡ x → T (x && numbersBelow b cs) → (T (numbersBelow b cs) → firstRefusal cs < b)
+        → cond applies (c .number) (firstRefusal cs) < b
+    by true true p k f = ltb-true (c .number) b p
+    by false true p k f = f k

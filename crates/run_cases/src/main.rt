@@ -1,7 +1,6 @@
 // Limits on each side: the count of a run and the seconds of a time of day; and lines of every kind that the program can be given.
 use calendar::InstantAnswer;
 use libc::STDOUT_FILENO;
-use run_line::Outcome;
 
 // Ends a line.
 fn end() {
@@ -30,24 +29,18 @@ fn time_refusal(second: u64, microsecond: u64) -> u32 {
     }
 }
 
-// An input, and behind it the answer.
+// An input, and behind it what the program writes for it: its words, or of a run the number of its bytes. A run is longer than any words.
 fn answer(input: &[u8]) {
     let mut buffer = [0u8; 2880];
     io::write_all(STDOUT_FILENO, input);
     io::write_all(STDOUT_FILENO, b"  ");
-    match run_line::answer(input, &mut buffer) {
-        Outcome::Run(size) => {
-            io::print_decimal(STDOUT_FILENO, size as u64);
-            io::write_all(STDOUT_FILENO, b" bytes");
-        }
-        Outcome::NoRun(number) => {
-            io::write_all(STDOUT_FILENO, b"refused ");
-            io::print_decimal(STDOUT_FILENO, number as u64);
-        }
-        Outcome::Bad => {
-            io::write_all(STDOUT_FILENO, b"bad line");
-        }
+    let size = run_line::answer(input, &mut buffer);
+    if size < 12 {
+        io::write_all(STDOUT_FILENO, &buffer[..size]);
+        return;
     }
+    io::print_decimal(STDOUT_FILENO, size as u64);
+    io::write_all(STDOUT_FILENO, b" bytes");
     end();
 }
 

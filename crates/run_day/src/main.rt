@@ -1,8 +1,8 @@
-// The program: a line from standard input is answered by a run of records, a refusal or `bad line` on standard output. Its stored input asks for a day
-// of ninety-six quarter-hour records.
+// The program: it reads a line from standard input, calls `run_line::answer`, and writes what that puts into the buffer. Its stored input asks for a day of
+// ninety-six quarter-hour records.
+use libc::STDERR_FILENO;
 use libc::STDIN_FILENO;
 use libc::STDOUT_FILENO;
-use run_line::Outcome;
 ghost use Prim.Native.Nat.{_≤_};
 ghost use lib.ListN.{length};
 
@@ -27,25 +27,13 @@ fn read_line(s: &mut [u8]) -> usize
     n
 }
 
-// Writes a refusal.
-fn refuse(number: u32) {
-    io::write_all(STDOUT_FILENO, b"refused ");
-    io::print_decimal(STDOUT_FILENO, number as u64);
-    io::write_all(STDOUT_FILENO, b"\n");
-}
-
-// Fifty-five bytes decide a line. The run is written from the program's own buffer.
+// Fifty-five bytes decide a line. What is written for it stands in the program's own buffer; where it cannot be written, one line to standard error says so.
 fn main() {
     let mut line = [0u8; 55];
     let n = read_line(&mut line);
     let mut buffer = [0u8; 2880];
-    match run_line::answer(&line[..n], &mut buffer) {
-        Outcome::Run(size) => {
-            io::write_all(STDOUT_FILENO, &buffer[..size]);
-        }
-        Outcome::NoRun(number) => refuse(number),
-        Outcome::Bad => {
-            io::write_all(STDOUT_FILENO, b"bad line\n");
-        }
+    let size = run_line::answer(&line[..n], &mut buffer);
+    if !io::write_all(STDOUT_FILENO, &buffer[..size]) {
+        io::write_all(STDERR_FILENO, b"run_day: the answer could not be written\n");
     }
 }

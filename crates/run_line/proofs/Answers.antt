@@ -1,84 +1,81 @@
--- The program's answer. The code asks for the line, then for its date's day number, then for the run; the definition has the refusals of date and
--- run as one list. So a refused date ends the list at its front, and past an accepted date the run's refusals are left. Assumes nothing.
-use Prim.Native.Nat.{ℕ, _*_, _≤_}
+-- What is written, case by case. The code asks for the line, then for its date's day number, then for the run; the definition has the date's refusals
+-- before those of the run. So a refused date ends the list at its front, and past an accepted date the run's text is left. Assumes nothing.
+use Prim.Native.Nat.{ℕ, _*_, _<_}
 use mathlib.Core.Path.{_≡_, refl, sym}
 use native.Mathlib.Omega.{arith}
 use lib.IntN.{ℤ}
 use lib.ListN.{length}
 use mathlib.Core.List.{List}
 use Rattle.calendar.specs.declared.DayAnswer.the-variants.{Day, NoDay}
-use Rattle.instants.specs.Refusals.{refusedOr}
+use Rattle.instants.specs.Refusals.{refusedOr, firstRefusal}
 use Rattle.calendar.specs.Dates.{dateCases, dayOf}
 use Rattle.instants.proofs.Impossible.{impossible}
-use Rattle.instants.proofs.FirstRefusal.{none-both, refused-alike, answered-none, none-answered}
+use Rattle.instants.proofs.FirstRefusal.{refused-alike, answered-none, none-answered, refused-first, first-none, first-below}
 use Rattle.line.specs.declared.Line.{Line}
-use Rattle.line.specs.declared.LineAnswer.{LineAnswer}
 use Rattle.line.specs.declared.LineAnswer.the-variants.{Parsed, BadLine}
 use Rattle.line.specs.Lines.{lineOf}
 use Rattle.record.specs.Format.{recordLength}
-use Rattle.run.specs.Run.{runRefusal, runWritten}
-use Rattle.run.proofs.Refusals.{not-refused}
-use Rattle.run_line.specs.declared.Outcome.the-variants.{Run, NoRun, Bad}
+use Rattle.run.specs.Run.{runRefusal, runWritten, runBytes}
+use Rattle.run.proofs.Records.{run-length, run-written, refused-unchanged}
 use Rattle.calendar.specs.Limits.{secondMicros}
-use Rattle.run_line.specs.Answer.{lineDay, dayRunCases, lineCases, forLine, outcomeOf, filledOf}
+use Rattle.run_line.specs.Words.{refusalText, badText}
+use Rattle.run_line.specs.Answer.{room, lineDay, dayRunCases, dayRunText, answerText}
+use Rattle.run_line.proofs.Words.{Puts}
 
--- ---- the answer, case by case
+-- ---- the run of a day
 
-module _ (s : List ℕ) (old : List ℕ) where
-  pub bad : lineOf s ≡ BadLine → (Bad ≡ outcomeOf s (length old)) × (old ≡ filledOf s old)
-  unfolding outcomeOf filledOf
-  bad e = rw e (refl, refl)
+module _ (d : ℤ) (count step : ℕ) where
+  abbrev refusal : ℕ
+  refusal = runRefusal d 0 count (step * secondMicros) room
+
+  -- a refusal has two digits at most
+  pub run-two-digits : refusal < 100
+  unfolding runRefusal
+  run-two-digits = first-below 100 (dayRunCases d count step) (omega arith) tt
+
+  module _ (old : List ℕ) (long : length old ≡ room) where
+    -- a run that is refused leaves the buffer to its refusal's text
+    pub no-run : (refusal ≡ 0 → ⊥) → (refusalText refusal ≡ dayRunText d count step) × (runWritten d 0 count (step * secondMicros) old ≡ old)
+    unfolding runRefusal dayRunText
+    no-run h = (
+      sym (refused-first refusalText (dayRunCases d count step) _ h),
+      refused-unchanged d 0 count (step * secondMicros) old (rw long h),
+    )
+
+    -- and one that is not refused is what is written
+    pub a-run : refusal ≡ 0 → Puts (dayRunText d count step) old (recordLength * count) (runWritten d 0 count (step * secondMicros) old)
+    unfolding runRefusal dayRunText
+    a-run e =
+        let t : refusedOr refusalText (dayRunCases d count step) (runBytes d 0 (step * secondMicros) count) ≡ runBytes d 0 (step * secondMicros) count =
+        none-answered refusalText (dayRunCases d count step) _ (first-none (dayRunCases d count step) tt e) in
+        rw t (sym (run-length d 0 (step * secondMicros) count), run-written d 0 count (step * secondMicros) old (rw long e))
+
+-- ---- a line
+
+module _ (s : List ℕ) where
+  pub bad : lineOf s ≡ BadLine → badText ≡ answerText s
+  unfolding answerText
+  bad e = rw e refl
 
   module _ (l : Line) (e : lineOf s ≡ Parsed l) where
-    pub no-date : (n : ℕ) → dayOf (l .year) (l .month) (l .day) ≡ NoDay n → (NoRun n ≡ outcomeOf s (length old)) × (old ≡ filledOf s old)
-    unfolding outcomeOf filledOf dayOf
-    no-date n f = rw e (by NoRun _, by (λ _. old) _)
-      where
-        by : {A : Type 0} (refuse : ℕ → A) (a : A) → refuse n ≡ refusedOr refuse (dateCases (l .year) (l .month) (l .day)) a
-        by refuse a = sym (refused-alike NoDay refuse (dateCases (l .year) (l .month) (l .day)) _ a n (λ k p. cc) (λ p. impossible (cc)) f)
+    -- a date's refusal has two digits at most
+    pub date-two-digits : (n : ℕ) → dayOf (l .year) (l .month) (l .day) ≡ NoDay n → n < 100
+    unfolding dayOf
+    date-two-digits n f =
+        let cs = dateCases (l .year) (l .month) (l .day) in
+        let p : firstRefusal cs ≡ n = refused-alike NoDay (λ k. k) cs (Day (lineDay l)) 0 n (λ k p. cc) (λ p. impossible (cc)) f in
+        rw (← p) (first-below 100 cs (omega arith) tt)
 
-    pub on-date : (d : ℤ) → dayOf (l .year) (l .month) (l .day) ≡ Day d
-        → (refusedOr NoRun (dayRunCases d (l .count) (l .step) (length old)) (Run (recordLength * l .count)) ≡ outcomeOf s (length old))
-        × (runWritten d 0 (l .count) (l .step * secondMicros) old ≡ filledOf s old)
-    unfolding outcomeOf filledOf dayOf runWritten
+    pub no-date : (n : ℕ) → dayOf (l .year) (l .month) (l .day) ≡ NoDay n → refusalText n ≡ answerText s
+    unfolding answerText dayOf
+    no-date n f =
+        rw e (sym (refused-alike NoDay refusalText (dateCases (l .year) (l .month) (l .day)) (Day (lineDay l)) _ n (λ k p. cc) (λ p. impossible (cc)) f))
+
+    pub on-date : (d : ℤ) → dayOf (l .year) (l .month) (l .day) ≡ Day d → dayRunText d (l .count) (l .step) ≡ answerText s
+    unfolding answerText dayOf
     on-date d f =
         let cs = dateCases (l .year) (l .month) (l .day) in
         let r = answered-none NoDay cs (Day (lineDay l)) (Day d) (λ n p. impossible (cc)) f in
         let g : Day (lineDay l) ≡ Day d = r .1 in
         let h : d ≡ lineDay l = cc in
-        rw (e, h) (sym (none-answered NoRun cs _ (r .0)), sym (none-answered (λ _. old) cs _ (r .0)))
-
--- What is so when the answer is a run of k bytes.
-pub record IsRun (s : List ℕ) (n k : ℕ) : Type 0 where
-  pub line : Line
-  pub day : ℤ
-  pub is-line : lineOf s ≡ Parsed line
-  pub is-day : dayOf (line .year) (line .month) (line .day) ≡ Day day
-  pub none : runRefusal day 0 (line .count) (line .step * secondMicros) n ≡ 0
-  pub size : k ≡ recordLength * line .count
-
-pub is-run : (s : List ℕ) (n k : ℕ) → outcomeOf s n ≡ Run k → IsRun s n k
-unfolding outcomeOf dayOf runRefusal
-is-run s n k e = by (lineOf s) refl e
-  where
-    by : (a : LineAnswer) → lineOf s ≡ a → forLine a n ≡ Run k → IsRun s n k
-    by BadLine p e = impossible (cc)
-    by (Parsed l) p e =
-        let r = answered-none NoRun (lineCases l n) (Run (recordLength * l .count)) (Run k) (λ n p. impossible (cc)) e in
-        let q = none-both (dateCases (l .year) (l .month) (l .day)) (dayRunCases (lineDay l) (l .count) (l .step) n) (r .0) in
-        let g : Run (recordLength * l .count) ≡ Run k = r .1 in
-        let f : recordLength * l .count ≡ k = cc in
-        record {
-          line = l;
-          day = lineDay l;
-          is-line = p;
-          is-day = none-answered NoDay (dateCases (l .year) (l .month) (l .day)) (Day (lineDay l)) (q .0);
-          none = none-answered (λ k. k) (dayRunCases (lineDay l) (l .count) (l .step) n) 0 (q .1);
-          size = sym f;
-        }
-
--- the bytes of a run are in the buffer
-pub run-within : (s : List ℕ) (n k : ℕ) → outcomeOf s n ≡ Run k → k ≤ n
-run-within s n k e =
-    let r : IsRun s n k = is-run s n k e in
-    omega (arith, r .size, not-refused (r .day) 0 (r .line .count) (r .line .step * secondMicros) n (r .none) .room)
+        rw (e, h) (sym (none-answered refusalText cs _ (r .0)))

@@ -1,5 +1,6 @@
--- Small: a line's numbers are below 10^10. Answers: the answer, case by case, and what is so of a run. Promises: what is promised. The folders prove the
--- functions of src/.
+-- Small: a line's numbers are below 10^10. Words: the program's words, byte by byte. Answers: what is written, case by case. Promises: what is promised.
+-- The folders prove the functions of src/.
 pub mod Small
+pub mod Words
 pub mod Answers
 pub mod Promises

@@ -1,103 +1,153 @@
--- What is promised of the program's answer: which refusals a line has where the buffer has room for every count, what a run is, and which bytes of the
--- input decide. Assumes nothing.
-use Prim.Native.Nat.{ℕ, _-_, _*_, _≤_}
+-- What is promised of what the program writes: which refusals a line can have, how many bytes there are at most, that a refusal's digits are its number's,
+-- and which bytes of the input decide. Assumes nothing.
+use Prim.Native.Nat.{ℕ, _+_, _-_, _*_, _/_, _%_, _≤_, _<_}
 use mathlib.Core.Path.{_≡_, refl, ap, sym, _∙_}
+use mathlib.Core.Bool.{Bool, true, false, cond}
 use mathlib.Core.List.{List, [], _∷_, _++_}
 use native.Mathlib.Omega.{arith}
+use lib.Dec.{ltb}
 use lib.ListN.{length, take, getD}
 use lib.Signed.{ltZ}
-use borrow.Author.Tests.{le-ltb}
-use Rattle.bigendian.specs.Buffers.{atFront}
-use Rattle.bigendian.proofs.Buffers.{front-take}
+use borrow.Author.Tests.{ltb-true, ltb-false, le-ltb, le-leb}
 use Rattle.calendar.specs.declared.DayAnswer.the-variants.{Day, NoDay}
 use Rattle.instants.specs.Limits.{lastDay}
 use Rattle.instants.specs.Refusals.{Case, case, refusedOr}
-use Rattle.calendar.specs.Dates.{date, dateCases, dayOf}
-use Rattle.instants.proofs.FirstRefusal.{in-both, none-answered}
+use Rattle.calendar.specs.Dates.{date, leapYear, monthLengths, monthLength, sum, yearLength, daysOfYears, daysBefore, dateIndex, dateCases, dayOf}
+use Rattle.instants.proofs.FirstRefusal.{NoneApplies, in-both, in-each, none-both, none-answered}
 use Rattle.calendar.proofs.Inverse.{there-and-back, date-range}
 use Rattle.line.specs.declared.Line.{Line}
 use Rattle.line.specs.declared.LineAnswer.{LineAnswer}
-use Rattle.line.specs.declared.LineAnswer.the-variants.{Parsed}
-use Rattle.line.specs.Lines.{newline, lineOf}
+use Rattle.line.specs.declared.LineAnswer.the-variants.{Parsed, BadLine}
+use Rattle.line.specs.Lines.{newline, isDigit, digits, decimal, decimalFrom, readNumber, lineOf}
+use Rattle.line.specs.Grammar.{Writes}
 use Rattle.line.proofs.Grammar.{first-bytes, no-newline}
 use Rattle.line.proofs.Newline.{after-newline}
+use Rattle.line.proofs.Scanning.{digits-more}
 use Rattle.record.specs.Format.{recordLength}
 use Rattle.run.specs.Run.{mostRecords, badCount, badStep, runBytes}
-use Rattle.instants.specs.Instants.{laterDay}
+use Rattle.instants.specs.Instants.{dayAtIndex, laterDay}
 use Rattle.instants.proofs.Accepted.{between}
-use Rattle.run.proofs.Refusals.{not-refused}
-use Rattle.run.proofs.Records.{run-length, run-written}
-use Rattle.run_line.specs.declared.Outcome.{Outcome}
-use Rattle.run_line.specs.declared.Outcome.the-variants.{Run, NoRun, Bad}
+use Rattle.run.proofs.Records.{run-length}
 use Rattle.calendar.specs.Limits.{secondMicros}
-use Rattle.run_line.specs.Answer.{lineDay, forLine, outcomeOf, filledForLine, filledOf}
-use Rattle.run_line.proofs.Answers.{IsRun, is-run, on-date}
+use Rattle.run_line.specs.Words.{ascii, numerals, refusalText, badText}
+use Rattle.run_line.specs.Answer.{room, lineDay, dayRunText, lineText, answerText}
+use Rattle.run_line.proofs.Answers.{bad}
 
 -- ---- the refusals
 
--- the refusals of a line that can apply when there is room for every count
-abbrev pub shortCases : Line → List Case
-shortCases l =
-    dateCases (l .year) (l .month) (l .day)
-    ++ case 17 (badCount (l .count))
+-- the refusals that the run of a line can have: 0 h is never refused, and the program's buffer has room for every count
+abbrev pub shortRunCases : Line → List Case
+shortRunCases l =
+    case 17 (badCount (l .count))
     ∷ case 18 (badStep (l .step * secondMicros))
     ∷ case 8 (ltZ lastDay (laterDay (lineDay l) 0 ((l .count - 1) * (l .step * secondMicros))))
     ∷ []
 
--- PROMISE. A line of five numbers is answered by the first of these refusals that applies: 1, 2 and 3 for the date, 17 for the count, 18 for the
--- step, and 8 for a last instant past the last day; or else by the run.
-pub line-answer : (s : List ℕ) (l : Line) (n : ℕ) → recordLength * mostRecords ≤ n → lineOf s ≡ Parsed l → outcomeOf s n ≡ refusedOr NoRun (shortCases l) (Run (recordLength * l .count))
-unfolding outcomeOf dayOf
-line-answer s l n room e =
+-- the refusals that a line can have
+abbrev pub shortCases : Line → List Case
+shortCases l = dateCases (l .year) (l .month) (l .day) ++ shortRunCases l
+
+-- the records of the run that a line asks for
+abbrev pub lineRun : Line → List ℕ
+lineRun l = runBytes (lineDay l) 0 (l .step * secondMicros) (l .count)
+
+-- PROMISE. For a line of five numbers the program writes the first of these refusals that applies: 1, 2 and 3 for the date, 17 for the count, 18 for the
+-- step, and 8 for a last instant past the last day; or else the run's records, from 0 h of the line's date on.
+pub line-answer : (s : List ℕ) (l : Line) → lineOf s ≡ Parsed l → answerText s ≡ refusedOr refusalText (shortCases l) (lineRun l)
+unfolding answerText dayRunText dayOf
+line-answer s l e =
     rw e
-    (in-both (λ (x y : Outcome). x ≡ y) NoRun NoRun (dateCases (l .year) (l .month) (l .day)) _ _ (λ k. refl)
+    (in-both (λ (x y : List ℕ). x ≡ y) refusalText refusalText (dateCases (l .year) (l .month) (l .day)) _ _ (λ k. refl)
     (λ h.
     let z = lineDay l in
     let o = date-range z (date (l .year) (l .month) (l .day)) (there-and-back (l .year) (l .month) (l .day) z (none-answered NoDay (dateCases (l .year) (l .month) (l .day)) (Day z) h)) .0 in
-    in-both (λ (x y : Outcome). x ≡ y) NoRun NoRun (case 17 (badCount (l .count)) ∷ []) _ _ (λ k. refl)
-    (λ p. let b = between (l .count) 1 mostRecords (p .0) in rw (o, le-ltb n (recordLength * l .count) (omega arith)) refl)))
+    in-both (λ (x y : List ℕ). x ≡ y) refusalText refusalText (case 17 (badCount (l .count)) ∷ []) _ _ (λ k. refl)
+    (λ p. let b = between (l .count) 1 mostRecords (p .0) in rw (o, le-ltb room (recordLength * l .count) (omega arith)) refl)))
 
--- ---- the run
+-- a digit's byte
+is-digit : (d : ℕ) → d < 10 → isDigit (48 + d) ≡ true
+is-digit d h = rw (le-leb 48 (48 + d) (omega arith), le-leb (48 + d) 57 (omega arith)) refl
 
--- an answer of k bytes: they are the records of the run
-pub record RunAnswer (s old : List ℕ) (k : ℕ) : Type 0 where
-  pub asked : IsRun s (length old) k
-  pub most : k ≤ 2880
-  pub bytes : take k (filledOf s old) ≡ runBytes (asked .day) 0 (asked .line .step * secondMicros) (asked .line .count)
-
--- PROMISE. An answer that is a run is 30 bytes for each of the line's count, never more than 2,880: the records of the run that starts at 0 h of the line's date.
-pub answer-run : (s old : List ℕ) (k : ℕ) → outcomeOf s (length old) ≡ Run k → RunAnswer s old k
-answer-run s old k e =
-    let r : IsRun s (length old) k = is-run s (length old) k e in
-    let t : ℕ = r .line .step * secondMicros in
-    let w : filledOf s old ≡ atFront (runBytes (r .day) 0 t (r .line .count)) old =
-    sym (on-date s old (r .line) (r .is-line) (r .day) (r .is-day) .1) ∙ run-written (r .day) 0 (r .line .count) t old (r .none) in
-    record {
-      asked = r;
-      most = omega (arith, r .size, not-refused (r .day) 0 (r .line .count) t (length old) (r .none) .counted .count-most);
-      bytes = rw w (front-take (runBytes (r .day) 0 t (r .line .count)) old k (run-length (r .day) 0 t (r .line .count) ∙ sym (r .size)));
+-- PROMISE. The digits of a refusal's text write its number, which is below 100 for every refusal.
+pub refusal-number : (n : ℕ) → n < 100 → Writes (numerals n) n
+unfolding digits decimalFrom
+refusal-number n h = by (ltb n 10) refl
+  where
+    by : (b : Bool) → ltb n 10 ≡ b → Writes (cond b ((48 + n) ∷ []) ((48 + n / 10) ∷ (48 + n % 10) ∷ [])) n
+    by true p = record {
+      every = digits-more (48 + n) [] (is-digit n (ltb-true n 10 p));
+      least = omega arith;
+      few = omega arith;
+      value = omega arith;
     }
+    by false p = record {
+      every = rw (digits-more (48 + n / 10) ((48 + n % 10) ∷ []) (is-digit (n / 10) (omega arith)), digits-more (48 + n % 10) [] (is-digit (n % 10) (omega arith))) refl;
+      least = omega arith;
+      few = omega arith;
+      value = omega arith;
+    }
+
+-- ---- how much is written
+
+-- a refusal's text has 11 bytes at most
+refusal-short : (n : ℕ) → length (refusalText n) ≤ 2880
+unfolding refusalText
+refusal-short n = by (ltb n 10)
+  where
+    by : (b : Bool) → length (ascii "refused " ++ cond b ((48 + n) ∷ []) ((48 + n / 10) ∷ (48 + n % 10) ∷ []) ++ ascii "\n") ≤ 2880
+    by true = omega arith
+    by false = omega arith
+
+-- PROMISE. The program writes 2,880 bytes at most.
+pub answer-most : (s : List ℕ) → length (answerText s) ≤ 2880
+unfolding badText
+answer-most s = by (lineOf s) refl
+  where
+    by : (a : LineAnswer) → lineOf s ≡ a → length (answerText s) ≤ 2880
+    by BadLine e = rw (← bad s e) (omega arith)
+    by (Parsed l) e =
+        rw (line-answer s l e)
+        (in-each refusalText (λ (x : List ℕ). length x ≤ 2880) (shortCases l) (lineRun l) refusal-short
+        (λ h.
+        let b = between (l .count) 1 mostRecords (none-both (dateCases (l .year) (l .month) (l .day)) (shortRunCases l) h .1 .0) in
+        omega (arith, run-length (lineDay l) 0 (l .step * secondMicros) (l .count), b .1)))
+
+-- a day of quarter hours, as bytes and as numbers
+abbrev aDay : List ℕ
+aDay = ascii "2007 12 31 96 900\n"
+
+abbrev itsLine : Line
+itsLine = record { year = 2007; month = 12; day = 31; count = 96; step = 900 }
+
+day-parsed : lineOf aDay ≡ Parsed itsLine
+unfolding lineOf readNumber digits decimalFrom
+day-parsed = refl
+
+day-accepted : NoneApplies (shortCases itsLine)
+unfolding leapYear monthLengths monthLength sum yearLength daysOfYears daysBefore dateIndex dayAtIndex
+day-accepted = (refl, (refl, (refl, (refl, (refl, (refl, tt))))))
+
+-- PROMISE. A line that is answered by a run exists: a day of quarter hours, 2,880 bytes of records.
+pub some-line : length (answerText aDay) ≡ 2880
+some-line =
+    ap length (line-answer aDay itsLine day-parsed ∙ none-answered refusalText (shortCases itsLine) (lineRun itsLine) day-accepted)
+    ∙ run-length (lineDay itsLine) 0 (itsLine .step * secondMicros) 96
 
 -- ---- which bytes of the input decide
 
--- s and u are answered alike
-pub record Alike (s u : List ℕ) : Type 0 where
-  pub outcome : (n : ℕ) → outcomeOf s n ≡ outcomeOf u n
-  pub buffer : (old : List ℕ) → filledOf s old ≡ filledOf u old
-
-alike : (s u : List ℕ) → lineOf s ≡ lineOf u → Alike s u
-unfolding outcomeOf filledOf
-alike s u e = record { outcome = λ n. ap (λ (a : LineAnswer). forLine a n) e; buffer = λ old. ap (λ (a : LineAnswer). filledForLine a old) e }
+alike : (s u : List ℕ) → lineOf s ≡ lineOf u → answerText s ≡ answerText u
+unfolding answerText
+alike s u e = ap lineText e
 
 -- PROMISE. The first 55 bytes of the input decide.
-pub first-decide : (s : List ℕ) → Alike (take 55 s) s
+pub first-decide : (s : List ℕ) → answerText (take 55 s) ≡ answerText s
 first-decide s = alike (take 55 s) s (first-bytes s)
 
--- PROMISE. What follows the first newline is not looked at.
-pub newline-ends : (s t u : List ℕ) → Alike (s ++ newline ∷ t) (s ++ newline ∷ u)
+-- PROMISE. Bytes behind the first newline change nothing.
+pub newline-ends : (s t u : List ℕ) → answerText (s ++ newline ∷ t) ≡ answerText (s ++ newline ∷ u)
 newline-ends s t u = alike (s ++ newline ∷ t) (s ++ newline ∷ u) (after-newline t u s)
 
 -- PROMISE. Input without a newline is a bad line.
-pub no-newline-bad : (s : List ℕ) (n : ℕ) → ((i : ℕ) → getD s i 0 ≡ newline → ⊥) → outcomeOf s n ≡ Bad
-unfolding outcomeOf
-no-newline-bad s n h = ap (λ (a : LineAnswer). forLine a n) (no-newline s h)
+pub no-newline-bad : (s : List ℕ) → ((i : ℕ) → getD s i 0 ≡ newline → ⊥) → answerText s ≡ badText
+unfolding answerText
+no-newline-bad s h = ap lineText (no-newline s h)

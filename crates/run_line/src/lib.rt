@@ -1,47 +1,65 @@
-// The program's answer to a line of input.
+// The program's answer to a line of input: the bytes that it writes.
 use calendar::DayAnswer;
 use calendar::SECOND_MICROS;
 use line::LineAnswer;
 use record::LENGTH;
 ghost use mathlib.Core.Path.{_≡_};
-ghost use Prim.Native.Nat.{_^_, _*_, _<_};
+ghost use Prim.Native.Nat.{_+_, _^_, _<_, _≤_};
 ghost use lib.ListN.{length};
-ghost use Rattle.instants.specs.Refusals.{refusedOr};
-ghost use Rattle.record.specs.Format.{recordLength};
-ghost use Rattle.run.specs.Run.{runWritten};
-ghost use Rattle.run_line.specs.declared.Outcome.the-variants as outcome;
-ghost use Rattle.calendar.specs.Limits.{secondMicros};
-ghost use Rattle.run_line.specs.Answer.{dayRunCases, outcomeOf, filledOf};
+ghost use Rattle.bigendian.specs.Buffers.{atFront};
+ghost use Rattle.run_line.specs.Words.{refusalText};
+ghost use Rattle.run_line.specs.Answer.{room, dayRunText, answerText};
 
-// What the program answers: a run, so many bytes at the front of the buffer; a refusal number; or a bad line.
-pub enum Outcome {
-    Run(usize),
-    NoRun(u32),
-    Bad,
+// The ASCII digit of a number below 10.
+fn digit(n: u32) -> u8
+    requires { ⌜ n < 10 ⌝ }
+    ensures { λ r. ⌜ r ≡ 48 + n ⌝ }
+{
+    b'0' + (n as u8)
 }
 
-// The run of a day from 0 h on, with a step in seconds, or its refusal.
-fn day_run(day: i64, count: u64, step: u64, buffer: &mut [u8]) -> Outcome
-    requires { ⌜ step < 10 ^ 10 ⌝ }
-    ensures outcome { λ r. ⌜ r ≡ refusedOr outcome.NoRun (dayRunCases day count step (length (now (buffer .entry)))) (outcome.Run (recordLength * count)) ⌝ }
-    ensures buffer { λ _. ⌜ now (buffer .exit) ≡ runWritten day 0 count (step * secondMicros) (now (buffer .entry)) ⌝ }
+// Puts a refusal's text at the front of the buffer and returns its length.
+fn refuse(number: u32, buffer: &mut [u8]) -> usize
+    requires two_digits { ⌜ number < 100 ⌝ }
+    requires space { ⌜ 11 ≤ length (now buffer) ⌝ }
+    ensures size { λ r. ⌜ r ≡ length (refusalText number) ⌝ }
+    ensures buffer { λ _. ⌜ now (buffer .exit) ≡ atFront (refusalText number) (now (buffer .entry)) ⌝ }
+{
+    if number < 10 {
+        let mut text = *b"refused 0\n";
+        text[8] = digit(number);
+        bytes::copy(&text, buffer)
+    } else {
+        let mut text = *b"refused 00\n";
+        text[8] = digit(number / 10);
+        text[9] = digit(number % 10);
+        bytes::copy(&text, buffer)
+    }
+}
+
+// Puts the run of a day from 0 h on, with a step in seconds, or its refusal at the front of the buffer, and returns the length.
+fn day_run(day: i64, count: u64, step: u64, buffer: &mut [u8]) -> usize
+    requires step { ⌜ step < 10 ^ 10 ⌝ }
+    requires room { ⌜ length (now buffer) ≡ room ⌝ }
+    ensures size { λ r. ⌜ r ≡ length (dayRunText day count step) ⌝ }
+    ensures buffer { λ _. ⌜ now (buffer .exit) ≡ atFront (dayRunText day count step) (now (buffer .entry)) ⌝ }
 {
     let n = run::write(day, 0, count, step * SECOND_MICROS, buffer);
     if n != 0 {
-        return Outcome::NoRun(n);
+        return refuse(n, buffer);
     }
-    Outcome::Run(LENGTH * (count as usize))
+    LENGTH * (count as usize)
 }
 
-// The answer to the bytes s, of which the first line counts.
-pub fn answer(s: &[u8], buffer: &mut [u8]) -> Outcome
-    ensures outcome { λ r. ⌜ r ≡ outcomeOf (now (s .entry)) (length (now (buffer .entry))) ⌝ }
-    ensures buffer { λ _. ⌜ now (buffer .exit) ≡ filledOf (now (s .entry)) (now (buffer .entry)) ⌝ }
+// Puts what is to be written for the input s, of which the first line counts, at the front of the buffer, and returns how many bytes that is.
+pub fn answer(s: &[u8], buffer: &mut [u8; 2880]) -> usize
+    ensures size { λ r. ⌜ r ≡ length (answerText (now (s .entry))) ⌝ }
+    ensures buffer { λ _. ⌜ now (buffer .exit) ≡ atFront (answerText (now (s .entry))) (now (buffer .entry)) ⌝ }
 {
     match line::parse(s) {
-        LineAnswer::BadLine => Outcome::Bad,
+        LineAnswer::BadLine => bytes::copy(b"bad line\n", buffer),
         LineAnswer::Parsed(l) => match calendar::day_of(l.year, l.month, l.day) {
-            DayAnswer::NoDay(n) => Outcome::NoRun(n),
+            DayAnswer::NoDay(n) => refuse(n, buffer),
             DayAnswer::Day(d) => day_run(d, l.count, l.step, buffer),
         },
     }

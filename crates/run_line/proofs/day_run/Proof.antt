@@ -1,40 +1,45 @@
--- `run_line::day_run` meets its contract: the refusal number that `run::write` gives is the first of its cases that applies, or 0 where none does.
+-- `run_line::day_run` meets its contract: a run that `run::write` refuses leaves the buffer to the refusal's text, and one that it writes is the answer.
 -- Assumes nothing.
-use Prim.Native.Nat.{_*_}
-use native.Mathlib.Omega.{arith}
-use mathlib.Core.Path.{_≡_, _∙_, ap, sym}
+use Prim.Native.Nat.{ℕ, _*_, _≤_}
+use mathlib.Core.Path.{_≡_, _∙_, ap, sym, refl}
 use mathlib.Core.List.{List}
+use native.Mathlib.Omega.{arith}
 use denote.Ref.{now}
 use lib.IntN.{ℤ}
 use lib.ListN.{length}
 use mir.Facts.{toZ-ofZ}
-use Rattle.instants.specs.Refusals.{Case}
-use Rattle.instants.proofs.FirstRefusal.{none-answered, refused-first, first-none}
+use Rattle.bigendian.specs.Buffers.{atFront}
 use Rattle.run.specs.Run.{runRefusal, runWritten}
 use Rattle.run.proofs.Refusals.{not-refused}
-use Rattle.run_line.specs.declared.Outcome.the-variants.{NoRun}
+use Rattle.run.proofs.Records.{run-keeps}
 use Rattle.calendar.specs.Limits.{secondMicros}
-use Rattle.run_line.specs.Answer.{dayRunCases}
+use Rattle.run_line.specs.Words.{refusalText}
+use Rattle.run_line.specs.Answer.{room, dayRunText}
+use Rattle.run_line.proofs.Answers.{run-two-digits, no-run, a-run}
 use borrow.Author.Needs.{needs}
 use Rattle.run_line.proofs.day_run.Statement.{statement}
 use Rattle.run_line.proofs.day_run.Tie as tie
 
--- after the call
-module _ (c : tie.After-slice-known2) where
-  abbrev w : tie.After-write
-  w = c .before .before
-
+-- after the call of `run::write`
+module _ (w : tie.After-write) where
   abbrev s : tie.Start
   s = w .before .before .before
 
-  abbrev cases : List Case
-  cases = dayRunCases (s .args .day) (s .args .count) (s .args .step) (length (now (s .args .buffer)))
+  abbrev old : List ℕ
+  old = now (s .args .buffer)
 
-  says : w .write .result ≡ runRefusal (s .args .day) 0 (s .args .count) (s .args .step * secondMicros) (length (now (s .args .buffer)))
-  says = w .write .ensures .0 ∙ ap (λ (d : ℤ). runRefusal d 0 (s .args .count) (s .args .step * secondMicros) (length (now (s .args .buffer)))) (toZ-ofZ (s .fits .day))
+  says : w .write .result ≡ runRefusal (s .args .day) 0 (s .args .count) (s .args .step * secondMicros) room
+  says = w .write .ensures .0 ∙ rw (toZ-ofZ (s .fits .day), s .pre .1) refl
 
-  fills : w .write .last .1 .1 .1 .1 .0 ≡ runWritten (s .args .day) 0 (s .args .count) (s .args .step * secondMicros) (now (s .args .buffer))
-  fills = w .write .ensures .1 ∙ ap (λ (d : ℤ). runWritten d 0 (s .args .count) (s .args .step * secondMicros) (now (s .args .buffer))) (toZ-ofZ (s .fits .day))
+  -- the buffer's bytes
+  abbrev new : List ℕ
+  new = w .write .last .1 .1 .1 .1 .0
+
+  fills : new ≡ runWritten (s .args .day) 0 (s .args .count) (s .args .step * secondMicros) old
+  fills = w .write .ensures .1 ∙ ap (λ (d : ℤ). runWritten d 0 (s .args .count) (s .args .step * secondMicros) old) (toZ-ofZ (s .fits .day))
+
+  long : length new ≡ room
+  long = ap length fills ∙ (run-keeps (s .args .day) 0 (s .args .count) (s .args .step * secondMicros) old .size ∙ s .pre .1)
 
 mul-write : tie.Need-mul-write
 mul-write c = search needs
@@ -42,24 +47,50 @@ mul-write c = search needs
 write-requires : tie.Need-write-requires
 write-requires c κs = search needs
 
+refuse-requires : tie.Need-refuse-requires
+refuse-requires c κs =
+    let w : tie.After-write = c .before .before .before .before in
+    let a = s w .args in
+    let k : 11 ≤ length (new w) = omega (arith, long w) in
+    (rw (says w) (run-two-digits (a .day) (a .count) (a .step)), k)
+
 same-length : tie.Need-same-length
 same-length c = search needs
 
 returns : tie.Need-returns
-unfolding runRefusal
-returns c = let a = c .before in (ap NoRun (says a) ∙ sym (refused-first NoRun (cases a) _ (λ e. c .if1 .taken (says a ∙ e))), fills a)
+returns c =
+    let y : tie.After-refuse = c .before .before in
+    let w : tie.After-write = y .before .before .before .before .before in
+    let a = s w .args in
+    let p = no-run (a .day) (a .count) (a .step) (old w) (s w .pre .1) (λ e. y .before .before .if1 .taken (says w ∙ e)) in
+    let e : refusalText (w .write .result) ≡ dayRunText (a .day) (a .count) (a .step) = ap refusalText (says w) ∙ p .0 in
+    let f : new w ≡ old w = fills w ∙ p .1 in
+    (y .refuse .ensures .0 ∙ ap length e, y .refuse .ensures .1 ∙ (ap (λ (b : List ℕ). atFront (refusalText (w .write .result)) b) f ∙ ap (λ (b : List ℕ). atFront b (old w)) e))
 
-mul-t11 : tie.Need-mul-t11
-mul-t11 c = let a = c .before in omega (arith, not-refused (s a .args .day) _ _ _ _ (sym (says a) ∙ c .if1 .left) .counted .count-most)
+mul-result : tie.Need-mul-result
+mul-result c =
+    let w : tie.After-write = c .before .before .before in
+    omega (arith, not-refused (s w .args .day) _ _ _ _ (sym (says w) ∙ c .if1 .left) .counted .count-most)
 
 same-length-2 : tie.Need-same-length-2
 same-length-2 c = search needs
 
 returns-2 : tie.Need-returns-2
-unfolding runRefusal
-returns-2 c = let a = c .before in (sym (none-answered NoRun (cases a) _ (first-none (cases a) tt (sym (says a) ∙ c .if1 .left))), fills a)
+returns-2 c =
+    let w : tie.After-write = c .before .before .before in
+    let a = s w .args in
+    let p = a-run (a .day) (a .count) (a .step) (old w) (s w .pre .1) (sym (says w) ∙ c .if1 .left) in
+    (p .0, fills w ∙ p .1)
 
 pub day-run-spec : {M : Type 1} → statement M
 day-run-spec =
     tie.close
-    (tie.spec mul-write write-requires same-length returns mul-t11 same-length-2 returns-2)
+    (tie.spec
+    mul-write
+    write-requires
+    refuse-requires
+    same-length
+    returns
+    mul-result
+    same-length-2
+    returns-2)
