@@ -2,15 +2,26 @@
  * Enfysgar: calendar, clock words, tidal phases, zonal-tide corrections,
  * free-core-nutation offsets and records for a timing unit.
  *
- * Include this header, and link libenfysgar.a and the mathematical library
- * (for its fmod):
+ * Include this header, and link libenfysgar.a and the mathematical library, which
+ * has fmod:
  *
  *     cc daemon.c $(pkg-config --cflags --libs enfysgar)
  *
- * Every call answers every value of every parameter. Nothing has to be checked
- * first; what cannot be answered is refused by a number (the table below).
- * No call keeps anything between two calls, allocates memory, or reads or
- * writes anything but its arguments, so any number of threads may call at once.
+ * The archive is for x86-64 Linux.
+ *
+ * Any value of any parameter is answered; nothing has to be checked first, and
+ * what cannot be answered is refused by a number (the table below). The one
+ * exception are pointers: `length` bytes of real memory must stand behind one,
+ * and a buffer that is written must not overlap another argument. No call keeps
+ * anything between two calls, allocates memory, or reads or writes anything but
+ * its arguments, so any number of threads may call at once.
+ *
+ * Only the calls of (d) use floating point, and only they depend on the thread's
+ * floating-point environment. They need what a C program starts with: binary64
+ * rounded to nearest, subnormal numbers not flushed to zero, and an exact fmod, as
+ * glibc's is. After fesetround(), or where flush-to-zero was switched on (as
+ * -ffast-math may do), their bits can be others. All other calls work in whole
+ * numbers and give the same answers in any environment.
  *
  * Words used below
  *
@@ -24,8 +35,9 @@
  * of one group always agree: either the refusal is 0 and the numbers are the
  * answer, or the refusal is not 0 and each number is 0 (+0.0 for a double).
  *
- * This software is based on routines of the IERS Conventions and is neither
- * distributed nor endorsed by the IERS Conventions Center. See NOTICE.
+ * This software is derived from routines of the IERS Conventions. It is not IERS
+ * Conventions software, and is neither distributed nor endorsed by the IERS
+ * Conventions Center: see NOTICE and DIFFERENCES.md, which are installed with it.
  */
 #ifndef ENFYSGAR_H
 #define ENFYSGAR_H
@@ -36,6 +48,15 @@
 #ifdef __cplusplus
 extern "C" {
 #endif
+
+/*
+ * The version. Its major number rises where a call changes its meaning or its
+ * parameters, the minor number where calls are added, the patch number otherwise.
+ */
+#define ENFYS_VERSION_MAJOR 1
+#define ENFYS_VERSION_MINOR 0
+#define ENFYS_VERSION_PATCH 1
+#define ENFYS_VERSION_STRING "1.0.1"
 
 /*
  * Refusal numbers. 0 is success. Where several apply, the first in the order
@@ -53,7 +74,7 @@ enum {
     ENFYS_DAY = 8,            /* day outside 15020..88433 (1900-01-01..2100-12-31),
                                  or the last instant of a run after day 88433 */
     ENFYS_MICROS = 9,         /* micros 86400000000 or more */
-    ENFYS_WORDS_DISAGREE = 10,/* the two clock words are of different days */
+    ENFYS_WORDS_DISAGREE = 10,/* the marks of the two clock words disagree */
     ENFYS_MULTIPLIER = 11,    /* a Doodson multiplier outside -12..12 */
     ENFYS_BUFFER_SHORT = 12,  /* buffer shorter than the answer, or than a record */
     ENFYS_RECORD_LENGTH = 13, /* length field of a record not 30 */
@@ -103,9 +124,8 @@ uint32_t enfys_instant_refusal(uint64_t year, uint64_t month, uint64_t day_of_mo
 
 /*
  * (c) Clock words: an instant in two words that may be read one after the other.
- * The day word is the day number. The time word is the micros plus a mark,
- * (day mod 8) * 137438953472 (2 to the 37th). If the two words were taken on
- * different days less than eight days apart, joining them is refused.
+ * The first is the day number; the second has the micros and above them a mark of
+ * the day, (day mod 8) * 137438953472 (2 to the 37th).
  */
 
 /* An instant as two words. Refused: 8, 9, in this order. */
@@ -117,6 +137,11 @@ uint32_t enfys_split_refusal(int64_t day, uint64_t micros);
  * Two words as an instant: micros is time_word mod 137438953472, the mark is the
  * quotient. Refused: 8 (the day word), 9 (the micros), 10 (the mark is not the day
  * word mod 8; a mark above 7 never is), in this order.
+ *
+ * 10 shows that the two words were not made on one day. That it is not given shows
+ * that they were, if they were taken less than eight days apart, and the answer is
+ * then the moment of the time word. Days eight, or a multiple of eight, apart have
+ * the same mark: such words are joined, and nothing here can notice it.
  */
 int64_t enfys_join_day(int64_t day_word, uint64_t time_word);
 uint64_t enfys_join_micros(int64_t day_word, uint64_t time_word);
@@ -125,10 +150,16 @@ uint32_t enfys_join_refusal(int64_t day_word, uint64_t time_word);
 /*
  * (d) Frequency, in cycles per day, and phase, in degrees, of the tidal
  * constituent with the six Doodson multipliers k1..k6 (M2 is 2, 0, 0, 0, 0, 0).
- * The phase is at least 0 and below 360, never minus zero. Both are the same
- * bits on every machine: IEEE binary64, each operation rounded once, in a fixed
- * order. Six zero multipliers give +0 and +0.
+ * The phase is at least 0 and below 360, never minus zero. Both are fixed to the
+ * bit: binary64, each operation rounded once, in one order (see above on the
+ * floating-point environment). Six zero multipliers give +0 and +0.
  * Refused: 8, 9, 11, in this order.
+ *
+ * Left to the caller: the phase is that of the expression, without the 90 degrees
+ * that are subtracted where degree plus species is odd, and without the 180 that
+ * some normalizations of the potential add. The hour angle in it is that of the
+ * instant's TT, not of UT1, from which it differs by 360 * k1 * (TT - UT1) / day
+ * degrees: for M2 by about half a degree in 2009.
  */
 double enfys_tide_frequency(int64_t day, uint64_t micros, int64_t k1, int64_t k2,
                             int64_t k3, int64_t k4, int64_t k5, int64_t k6);
@@ -177,10 +208,11 @@ uint32_t enfys_nutation_refusal(int64_t day, uint64_t micros);
  *   16-19  ut1    \
  *   20-23  lod     } signed, two's complement, units as in (e)
  *   24-27  rate   /
- *   28-29  chosen so that the fifteen 16-bit words add up to 0 modulo 65536
+ *   28-29  the number that makes the sum of all fifteen 16-bit words 0 modulo 65536
  *
  * `buffer` and `bytes` point to `length` bytes of the caller's, which nothing
- * else may write during the call. With length 0 the pointer is not used.
+ * else may write during the call. With length 0 the pointer is not used, and may
+ * be NULL.
  */
 
 /*

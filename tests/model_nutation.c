@@ -1,6 +1,7 @@
 /*
  * Free-core-nutation offsets in double precision, with libm's sine and cosine, and
- * their uncertainty in whole numbers. The rows are those of the IERS routine FCNNUT.
+ * their uncertainty in whole numbers. Derived from the IERS routine FCNNUT, whose rows
+ * these are; not IERS Conventions software (NOTICE, docs/DIFFERENCES.md).
  */
 #include "model.h"
 

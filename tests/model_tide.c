@@ -1,6 +1,7 @@
 /*
  * Tidal frequency and phase. Compile with -ffp-contract=off: every operation is
- * rounded once. The constants are those of the IERS routine TDFRPH.
+ * rounded once. Derived from the IERS routine TDFRPH; not IERS Conventions software
+ * (NOTICE, docs/DIFFERENCES.md).
  */
 #include "model.h"
 

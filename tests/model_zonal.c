@@ -1,6 +1,7 @@
 /*
  * Zonal-tide corrections in double precision, with libm's sine and cosine. The
  * terms are those of the IERS routine RG_ZONT2, the arguments those of TDFRPH.
+ * Derived from both; not IERS Conventions software (NOTICE, docs/DIFFERENCES.md).
  */
 #include "model.h"
 

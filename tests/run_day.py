@@ -21,6 +21,7 @@ PROGRAM = os.environ.get("PROGRAM", os.path.join(ROOT, "target/bin/run_day"))
 ARCHIVE = os.environ.get("ARCHIVE", os.path.join(ROOT, "target/staticlib/libenfysgar.a"))
 BUILD = os.path.join(os.environ.get("BUILD", os.path.join(ROOT, "build")), "tests")
 BAD = b"bad line\n"
+NOT_WRITTEN = b"run_day: the answer could not be written\n"
 EPOCH = datetime.date(1858, 11, 17)  # day number 0
 LAST_DAY = 88433
 DAY_MICROS = 86_400_000_000
@@ -230,6 +231,12 @@ def answer_without_input():
         return closed, subprocess.run([PROGRAM], stdin=nothing, stdout=subprocess.PIPE, check=False).stdout
 
 
+def answers_not_written(data):
+    """What is said where standard output is full, and where it is closed: the status and standard error."""
+    for redirect in (">/dev/full", ">&-"):
+        yield subprocess.run(["sh", "-c", f'exec "$0" {redirect}', PROGRAM], input=data, stderr=subprocess.PIPE, check=False)
+
+
 def fail(data, got, want, more=""):
     shown = [x if len(x) <= 120 else x[:120] + b" .. (%d bytes)" % len(x) for x in (data, got, want)]
     print(f"run_day: FAILED\n  input    {shown[0]!r}\n  gave     {shown[1]!r}{more}\n  expected {shown[2]!r}", file=sys.stderr)
@@ -260,6 +267,10 @@ def main():
     for got in answer_without_input():
         if got != BAD:
             fail(b"no input", got, BAD)
+    for data in (day, b"2007 12 31 97 900\n", b"\n"):
+        for done in answers_not_written(data):
+            if done.returncode != 0 or done.stderr != NOT_WRITTEN:
+                fail(data, done.stderr, NOT_WRITTEN, f" on standard error, status {done.returncode} (output that cannot be written)")
 
     for mistake in MISTAKES:
         if all(expected(data, runs, mistake) == got for data, got in zip(all_inputs, outputs)):
@@ -267,7 +278,7 @@ def main():
     few = [kind for kind in ["a run", "bad line", *(f"refused {n}" for n in (1, 2, 3, 8, 17, 18))] if kinds.get(kind, 0) < 20]
     if few:
         sys.exit(f"run_day: too few inputs are answered by {few}")
-    print(f"run_day: {len(all_inputs) + 8} inputs compared "
+    print(f"run_day: {len(all_inputs) + 8} inputs compared, 6 answers that cannot be written,  "
           f"({', '.join(f'{n} {kind}' for kind, n in sorted(kinds.items()))})")
     print(f"run_day: {len(MISTAKES)} mistakes of the rule noticed")
 

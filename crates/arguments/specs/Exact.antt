@@ -1,4 +1,5 @@
 -- The exact arguments and the exact angle of each row of the table, in whole numbers: an angle is a numerator over `turnParts`, in turns.
+-- Derived from the IERS routine TDFRPH; not IERS Conventions software (NOTICE, docs/DIFFERENCES.md).
 use mathlib.Core.List.{List, [], _∷_}
 use Prim.Native.Nat.{ℕ, _*_, _^_}
 use lib.IntN.{ℤ, pos, _+ℤ_, _*ℤ_, pow}

@@ -1,5 +1,6 @@
 // The five Delaunay arguments and the angle of each row of the zonal table, in whole numbers.
 // Their distance from the exact angles is proved in proofs/Distance.antt.
+// Derived from the IERS routines TDFRPH (the arguments) and RG_ZONT2 (the rows); not IERS Conventions software (NOTICE, docs/DIFFERENCES.md).
 ghost use mathlib.Core.Path.{_≡_};
 ghost use Prim.Native.Nat.{ℕ, _+_, _*_, _-_, _/_, _%_, _^_, _≤_, _<_};
 ghost use lib.ListN.{getD};

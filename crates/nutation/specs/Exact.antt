@@ -1,5 +1,6 @@
 -- The exact offsets of the free core nutation and their uncertainty, of any table, at the moment x. A number that need not be whole is a numerator
 -- over a denominator.
+-- Derived from the IERS routine FCNNUT; not IERS Conventions software (NOTICE, docs/DIFFERENCES.md).
 use mathlib.Core.List.{List}
 use Prim.Native.Nat.{ℕ, _+_, _*_, _-_, _/_}
 use lib.IntN.{ℤ, pos, negℤ, _+ℤ_, _-ℤ_, _*ℤ_, natAbs}

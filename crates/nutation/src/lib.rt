@@ -1,5 +1,6 @@
-// The offsets of the celestial pole by the free core nutation, and their uncertainty, after FCNNUT.
+// Service (f): the offsets of the celestial pole by the free core nutation, and their uncertainty.
 // The offsets are ours in whole numbers (specs/Ours.antt), within two nanoarcseconds of the exact ones (proofs/Distance.antt); the uncertainty is exact.
+// Derived from the IERS routine FCNNUT; not IERS Conventions software (NOTICE, docs/DIFFERENCES.md).
 use instants::Acceptance;
 use instants::DAY_MICROS;
 use rows::Place;

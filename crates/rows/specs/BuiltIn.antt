@@ -1,4 +1,4 @@
--- The thirty rows of FCNNUT, 1984 to 2013.
+-- The thirty rows of FCNNUT, 1984 to 2013. Derived from that IERS routine; not IERS Conventions software (NOTICE, docs/DIFFERENCES.md).
 use mathlib.Core.List.{List, [], _∷_}
 use Rattle.algebra.specs.Integers.{+_, −_}
 use Rattle.rows.specs.declared.Row.{Row}

@@ -1,4 +1,5 @@
 // Rows of amplitudes of the free core nutation: the built-in ones of FCNNUT, and where a moment is among the rows of any accepted table.
+// Derived from the IERS routine FCNNUT; not IERS Conventions software (NOTICE, docs/DIFFERENCES.md).
 use instants::INDEX_OFFSET;
 ghost use mathlib.Core.Path.{_≡_};
 ghost use Prim.Native.Nat.{_<_};

@@ -1,5 +1,6 @@
 -- The Delaunay arguments l, l', F, D, Omega in degrees, F1 to F5, and their frequencies in cycles per day, FD1 to FD5, at t Julian centuries
--- from J2000.0: the constants and the order of operations of the IERS routine TDFRPH.
+-- from J2000.0: the constants and the order of operations of the IERS routine TDFRPH. FD2 is constant.
+-- Derived from that routine; not IERS Conventions software (NOTICE, docs/DIFFERENCES.md).
 use lib.Ieee.{Float}
 use Rattle.tide.specs.Binary64.{_⊕_, _⊖_, _⊗_, plus, minus}
 

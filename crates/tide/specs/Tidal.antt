@@ -1,4 +1,5 @@
 -- The rules of docs/RULES.md for the frequency and phase of a tidal constituent, in their order.
+-- Derived from the IERS routine TDFRPH; not IERS Conventions software (NOTICE, docs/DIFFERENCES.md).
 use Prim.Native.Nat.{ℕ}
 use mathlib.Core.Bool.{Bool, cond, not, _&&_}
 use mathlib.Core.List.{List, [], _∷_, _++_}

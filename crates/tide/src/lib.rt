@@ -1,6 +1,5 @@
-// Frequency and phase of a tidal constituent, from its six Doodson multipliers and an instant of
-// Terrestrial Time. This is not IERS Conventions software: it is derived from the routine TDFRPH of
-// that collection, and docs/DIFFERENCES.md says how it differs.
+// Service (d): frequency and phase of a tidal constituent, from its six Doodson multipliers and an instant of Terrestrial Time.
+// Derived from the IERS routine TDFRPH; not IERS Conventions software (NOTICE, docs/DIFFERENCES.md).
 use instants::Acceptance;
 ghost use mathlib.Core.Path.{_≡_};
 ghost use Prim.Native.Nat.{_<_};

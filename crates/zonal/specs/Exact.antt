@@ -1,4 +1,5 @@
 -- The exact zonal sums (docs/RULES.md) at n microseconds since J2000.0: whole numbers, over one denominator.
+-- Derived from the IERS routine RG_ZONT2; not IERS Conventions software (NOTICE, docs/DIFFERENCES.md).
 use mathlib.Core.List.{[]}
 use Prim.Native.Nat.{ℕ}
 use lib.IntN.{ℤ, _+ℤ_, _*ℤ_}

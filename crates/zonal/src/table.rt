@@ -1,4 +1,6 @@
 // The table of RG_ZONT2. A function that names one of these arrays makes it anew at each call, so each is named once for an instant and lent.
+// Derived from the IERS routine RG_ZONT2; not IERS Conventions software (NOTICE, docs/DIFFERENCES.md).
+
 // The multipliers of l, l', F, D and Omega.
 pub const MULTIPLIERS: [[i8; 5]; 62] = [
     [1, 0, 2, 2, 2],

@@ -1,0 +1,88 @@
+/*
+ * The floating-point environment: no call but those of service (d) depends on it. Every other number is
+ * asked for as the program starts, and again with another rounding direction and subnormal numbers
+ * flushed to zero. With mistake 61 the same is expected of service (d), which shows that the
+ * environment was changed.
+ */
+#include "../include/enfysgar.h"
+#include "check.h"
+#include "model.h"
+
+#include <fenv.h>
+#include <string.h>
+#include <xmmintrin.h>
+
+#define NUMBERS 32
+#define FLUSH_TO_ZERO 0x8040u /* of results and of operands */
+
+static const int directions[] = {FE_UPWARD, FE_DOWNWARD, FE_TOWARDZERO};
+
+/* The numbers of an instant, and how many there are. A run's records are taken as one sum. */
+static int answers(int64_t day, uint64_t micros, uint64_t number[NUMBERS])
+{
+    uint8_t run[2 * ENFYS_RECORD_BYTES] = {0};
+    uint64_t year = enfys_day_to_year(day), month = enfys_day_to_month(day), date = enfys_day_to_day_of_month(day);
+    uint64_t time = enfys_split_time_word(day, micros), sum = 0;
+    int n = 0;
+
+    number[n++] = year * 10000 + month * 100 + date;
+    number[n++] = enfys_day_refusal(day);
+    number[n++] = (uint64_t)enfys_date_to_day(year, month, date);
+    number[n++] = enfys_date_refusal(year, month, date);
+    number[n++] = (uint64_t)enfys_instant_day(year, month, date, 23, 59, 59, micros % 1000000);
+    number[n++] = enfys_instant_micros(year, month, date, 23, 59, 59, micros % 1000000);
+    number[n++] = enfys_instant_refusal(year, month, date, 23, 59, 59, micros % 1000000);
+    number[n++] = (uint64_t)enfys_split_day_word(day, micros);
+    number[n++] = time;
+    number[n++] = enfys_split_refusal(day, micros);
+    number[n++] = (uint64_t)enfys_join_day(day, time);
+    number[n++] = enfys_join_micros(day, time);
+    number[n++] = enfys_join_refusal(day, time);
+    number[n++] = (uint64_t)enfys_zonal_ut1(day, micros);
+    number[n++] = (uint64_t)enfys_zonal_lod(day, micros);
+    number[n++] = (uint64_t)enfys_zonal_rate(day, micros);
+    number[n++] = enfys_zonal_refusal(day, micros);
+    number[n++] = (uint64_t)enfys_nutation_x(day, micros);
+    number[n++] = (uint64_t)enfys_nutation_y(day, micros);
+    number[n++] = enfys_nutation_uncertainty(day, micros);
+    number[n++] = enfys_nutation_refusal(day, micros);
+    number[n++] = enfys_run_write(day, micros, 2, 900000000, run, sizeof run);
+    for (size_t i = 0; i < sizeof run; i++)
+        sum = sum * 257 + run[i];
+    number[n++] = sum;
+    number[n++] = enfys_record_write(day, micros, 1, -1, 0, run, sizeof run);
+    number[n++] = (uint64_t)enfys_record_day(run, sizeof run);
+    number[n++] = enfys_record_micros(run, sizeof run);
+    number[n++] = (uint64_t)enfys_record_ut1(run, sizeof run) ^ (uint64_t)enfys_record_lod(run, sizeof run) << 20;
+    number[n++] = (uint64_t)enfys_record_rate(run, sizeof run);
+    number[n++] = enfys_record_refusal(run, sizeof run);
+    number[n++] = MISTAKE(61, 0, bits_of(enfys_tide_frequency(day, micros, 2, -1, 3, 0, 1, -2)));
+    number[n++] = MISTAKE(61, 0, bits_of(enfys_tide_phase(day, micros, 2, -1, 3, 0, 1, -2)));
+    return n;
+}
+
+static void compare(int64_t day, uint64_t micros)
+{
+    uint64_t first[NUMBERS], again[NUMBERS];
+    int n = answers(day, micros, first);
+
+    for (int d = 0; d < 3; d++) {
+        unsigned before = _mm_getcsr();
+
+        fesetround(directions[d]);
+        _mm_setcsr(_mm_getcsr() | FLUSH_TO_ZERO);
+        answers(day, micros, again);
+        _mm_setcsr(before);
+        fesetround(FE_TONEAREST);
+        for (int i = 0; i < n; i++)
+            SAME_U(again[i], first[i], "number %d, direction %d, day %" PRId64 ", micros %" PRIu64, i, d, day, micros);
+    }
+}
+
+int main(int argc, char **argv)
+{
+    begin("environment", argc, argv);
+    for (int i = 0; i < 20000; i++)
+        compare(some_day(), some_micros());
+    return end(NULL);
+}
