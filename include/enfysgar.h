@@ -64,25 +64,25 @@ extern "C" {
  */
 enum {
     ENFYS_OK = 0,
-    ENFYS_YEAR = 1,           /* year outside 1900..2100 */
-    ENFYS_MONTH = 2,          /* month outside 1..12 */
-    ENFYS_DAY_OF_MONTH = 3,   /* day of month outside that month */
-    ENFYS_HOUR = 4,           /* hour above 23 */
-    ENFYS_MINUTE = 5,         /* minute above 59 */
-    ENFYS_SECOND = 6,         /* second above 59 */
-    ENFYS_MICROSECOND = 7,    /* microsecond of the second above 999999 */
-    ENFYS_DAY = 8,            /* day outside 15020..88433 (1900-01-01..2100-12-31),
-                                 or the last instant of a run after day 88433 */
-    ENFYS_MICROS = 9,         /* micros 86400000000 or more */
-    ENFYS_WORDS_DISAGREE = 10,/* the marks of the two clock words disagree */
-    ENFYS_MULTIPLIER = 11,    /* a Doodson multiplier outside -12..12 */
-    ENFYS_BUFFER_SHORT = 12,  /* buffer shorter than the answer, or than a record */
-    ENFYS_RECORD_LENGTH = 13, /* length field of a record not 30 */
-    ENFYS_RECORD_VERSION = 14,/* version byte of a record not 1 */
-    ENFYS_RECORD_ZERO = 15,   /* byte 3 of a record not 0 */
-    ENFYS_RECORD_SUM = 16,    /* the 16-bit words of a record do not add up to 0 */
-    ENFYS_RUN_COUNT = 17,     /* number of records of a run outside 1..96 */
-    ENFYS_RUN_STEP = 18       /* step of a run outside 1..86400000000 microseconds */
+    ENFYS_YEAR = 1,            /* year outside 1900..2100 */
+    ENFYS_MONTH = 2,           /* month outside 1..12 */
+    ENFYS_DAY_OF_MONTH = 3,    /* day of month outside that month */
+    ENFYS_HOUR = 4,            /* hour above 23 */
+    ENFYS_MINUTE = 5,          /* minute above 59 */
+    ENFYS_SECOND = 6,          /* second above 59 */
+    ENFYS_MICROSECOND = 7,     /* microsecond of the second above 999999 */
+    ENFYS_DAY = 8,             /* day outside 15020..88433 (1900-01-01..2100-12-31),
+                                  or the last instant of a run after day 88433 */
+    ENFYS_MICROS = 9,          /* micros 86400000000 or more */
+    ENFYS_WORDS_DISAGREE = 10, /* the marks of the two clock words disagree */
+    ENFYS_MULTIPLIER = 11,     /* a Doodson multiplier outside -12..12 */
+    ENFYS_BUFFER_SHORT = 12,   /* buffer shorter than the answer, or than a record */
+    ENFYS_RECORD_LENGTH = 13,  /* length field of a record not 30 */
+    ENFYS_RECORD_VERSION = 14, /* version byte of a record not 1 */
+    ENFYS_RECORD_ZERO = 15,    /* byte 3 of a record not 0 */
+    ENFYS_RECORD_SUM = 16,     /* the 16-bit words of a record do not add up to 0 */
+    ENFYS_RUN_COUNT = 17,      /* number of records of a run outside 1..96 */
+    ENFYS_RUN_STEP = 18        /* step of a run outside 1..86400000000 microseconds */
 };
 
 /* First and last accepted day, microseconds in a day, and the sizes of records. */
