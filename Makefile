@@ -4,20 +4,25 @@
 #   make test                the whole gate
 #   make examples            the example daemon, held to its stored output
 #   make bench               times against plain C
-#   make install PREFIX=..   header, archive, program, pkg-config file, manual page
+#   make install PREFIX=..   header, archive, program, pkg-config file, manual page, notice, licence and the source of the routines
+#   make version             the version, which the header has too
 
 RT ?= rt
 CC ?= cc
 CFLAGS ?= -O2 -Wall -Wextra
 PREFIX ?= /usr/local
-VERSION = 1.0.0
+VERSION = 1.0.1
 DAY ?= 2007 12 31 96 900
 
 ARCHIVE = target/staticlib/libenfysgar.a
 PROGRAM = target/bin/run_day
 CRATES = crates.txt $(shell find crates -name '*.rt' -o -name '*.antt')
 
-.PHONY: all archive program demo examples bench test install clean
+# what is installed of the source: the code and its definitions
+SOURCE = $(shell find crates -path '*/src/*.rt' -o -path '*/specs/*.antt')
+DOC = $(DESTDIR)$(PREFIX)/share/doc/enfysgar
+
+.PHONY: all archive program demo examples bench test install version clean
 
 all: archive program
 
@@ -50,14 +55,19 @@ test:
 
 install: $(ARCHIVE) $(PROGRAM)
 	install -d $(DESTDIR)$(PREFIX)/include $(DESTDIR)$(PREFIX)/lib/pkgconfig $(DESTDIR)$(PREFIX)/bin \
-	    $(DESTDIR)$(PREFIX)/share/man/man1 $(DESTDIR)$(PREFIX)/share/doc/enfysgar
+	    $(DESTDIR)$(PREFIX)/share/man/man1 $(DOC) $(DESTDIR)$(PREFIX)/share/enfysgar
 	install -m 644 include/enfysgar.h $(DESTDIR)$(PREFIX)/include/
 	install -m 644 $(ARCHIVE) $(DESTDIR)$(PREFIX)/lib/
 	install -m 755 $(PROGRAM) $(DESTDIR)$(PREFIX)/bin/
 	install -m 644 packaging/run_day.1 $(DESTDIR)$(PREFIX)/share/man/man1/
-	install -m 644 NOTICE $(DESTDIR)$(PREFIX)/share/doc/enfysgar/
+	install -m 644 NOTICE LICENSE CHANGELOG.md docs/DIFFERENCES.md docs/RULES.md $(DOC)/
+	for file in $(SOURCE); do install -D -m 644 $$file $(DESTDIR)$(PREFIX)/share/enfysgar/$$file || exit 1; done
 	sed -e 's|@PREFIX@|$(PREFIX)|' -e 's|@VERSION@|$(VERSION)|' packaging/enfysgar.pc.in \
 	    >$(DESTDIR)$(PREFIX)/lib/pkgconfig/enfysgar.pc
 
+version:
+	@echo $(VERSION)
+
 clean:
-	rm -rf build
+	rm -rf build target
+	find . -name __pycache__ -prune -exec rm -rf {} +

@@ -278,8 +278,8 @@ def main():
     few = [kind for kind in ["a run", "bad line", *(f"refused {n}" for n in (1, 2, 3, 8, 17, 18))] if kinds.get(kind, 0) < 20]
     if few:
         sys.exit(f"run_day: too few inputs are answered by {few}")
-    print(f"run_day: {len(all_inputs) + 8} inputs compared, 6 answers that cannot be written,  "
-          f"({', '.join(f'{n} {kind}' for kind, n in sorted(kinds.items()))})")
+    print(f"run_day: {len(all_inputs) + 8} inputs compared "
+          f"({', '.join(f'{n} {kind}' for kind, n in sorted(kinds.items()))}), 6 answers that could not be written")
     print(f"run_day: {len(MISTAKES)} mistakes of the rule noticed")
 
 

@@ -9,7 +9,6 @@
 #include "model.h"
 
 #include <fenv.h>
-#include <string.h>
 #include <xmmintrin.h>
 
 #define NUMBERS 32

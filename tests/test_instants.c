@@ -1,4 +1,4 @@
-/* Service (b): date and time of day to an instant. */
+/* Service (b): instants from dates and times of day. */
 #include "../include/enfysgar.h"
 #include "check.h"
 #include "model.h"

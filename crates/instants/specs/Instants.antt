@@ -1,4 +1,4 @@
--- An instant is a day number (Modified Julian Date) and the microseconds of that day, in Terrestrial Time. Which instants are accepted, and the
+-- An instant: a day number (MJD) with microseconds since 0 h, both of Terrestrial Time. Which instants are accepted, and the
 -- instant some microseconds later.
 use Prim.Native.Nat.{ℕ, _+_, _/_, _%_}
 use mathlib.Core.Path.{_≡_}

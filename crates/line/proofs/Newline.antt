@@ -1,4 +1,4 @@
--- What follows the first newline is not looked at: each of the five numbers either ends before it, or is the last that is read. Assumes nothing.
+-- Bytes behind the first newline change nothing: each of the five numbers either ends before it, or is the last that is read. Assumes nothing.
 use Prim.Native.Nat.{ℕ, suc, _≤_}
 use mathlib.Core.Path.{_≡_, refl, ap}
 use mathlib.Core.Bool.{Bool, true, false, cond}
@@ -50,7 +50,7 @@ module _ (t u : List ℕ) where
       by false false v [] = k v
       by false false v (x ∷ s) = pick v (s ++ newline ∷ t) (s ++ newline ∷ u) f g (h v s) (eqb x end)
 
-  -- what follows the first newline is not looked at
+  -- bytes behind the first newline change nothing
   pub after-newline : (s : List ℕ) → lineOf (s ++ newline ∷ t) ≡ lineOf (s ++ newline ∷ u)
   unfolding lineOf
   after-newline s =

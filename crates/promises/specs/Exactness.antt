@@ -55,7 +55,7 @@ pub record Exactness : Type 0 where
   -- (g) a record written at an accepted instant, with any three numbers of 32 bits, into thirty bytes or more reads back as it was
   pub record-reads-back : (d : ℤ) (m : ℕ) (ut1 lod rate : ℤ) (old : List ℕ) → IsAccepted d m → recordLength ≤ length old → SFits w32 ut1 → SFits w32 lod → SFits w32 rate
       → readOf (written d m ut1 lod rate old) ≡ IsRecord (recordWith d m ut1 lod rate)
-  -- thirty bytes that read as a record, written again, are the same thirty bytes, and what stood behind them stays
+  -- what thirty bytes gave when read, written, makes the same thirty bytes; what stood behind them stays
   pub record-written-again : (s : List ℕ) (r : Record) (old : List ℕ) → Bytes s → readOf s ≡ IsRecord r → recordLength ≤ length old
       → (writeRefusal (r .day) (r .micros) (length old) ≡ 0) × (written (r .day) (r .micros) (r .ut1) (r .lod) (r .rate) old ≡ take recordLength s ++ drop recordLength old)
   -- only the first thirty bytes are read, and writing changes no byte behind them

@@ -68,7 +68,7 @@ module _ (s : List ℕ) (b : Bytes s) (f : Formed s) where
       ap (λ (l : List ℕ). l ++ inField checkField (negated (wordSum l 14))) fields-are
       ∙ on checkField refl (number checkField (omega arith) check-is)
 
--- PROMISE. Thirty bytes that read as a record, written again into any thirty bytes or more, are the same thirty bytes.
+-- PROMISE. What thirty bytes gave when read, written into any thirty bytes or more, makes the same thirty bytes.
 pub written-again : (s : List ℕ) (r : Record) (old : List ℕ) → Bytes s → readOf s ≡ IsRecord r → recordLength ≤ length old
     → (writeRefusal (r .day) (r .micros) (length old) ≡ 0) × (written (r .day) (r .micros) (r .ut1) (r .lod) (r .rate) old ≡ take recordLength s ++ drop recordLength old)
 unfolding writeRefusal

@@ -48,7 +48,7 @@ ut1Field = field 16 4
 abbrev pub lodField : Field
 lodField = field 20 4
 
--- rate in units of 10^-20 radian per second, signed
+-- rate in 10^-20 rad/s, signed
 abbrev pub rateField : Field
 rateField = field 24 4
 

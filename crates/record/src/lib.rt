@@ -44,8 +44,8 @@ const RATE_FIELD: Field = Field { at: 24, size: 4 };
 
 const CHECK_FIELD: Field = Field { at: 28, size: 2 };
 
-// A record's instant (day number and microseconds of the day) and its three numbers: UT1 in nanoseconds, length of day in picoseconds, rate in units of
-// 10^-20 radian per second.
+// A record's instant (day number and microseconds of the day) and its three numbers: UT1 in nanoseconds, length of day in picoseconds, rate in
+// 10^-20 rad/s.
 pub struct Record {
     pub day: i64,
     pub micros: u64,

@@ -19,8 +19,8 @@ use Rattle.line.specs.declared.Line.{Line}
 use Rattle.line.specs.declared.LineAnswer.{LineAnswer}
 use Rattle.line.specs.declared.LineAnswer.the-variants.{Parsed, BadLine}
 use Rattle.line.specs.Lines.{newline, isDigit, digits, decimal, decimalFrom, readNumber, lineOf}
-use Rattle.line.specs.Grammar.{Writes}
-use Rattle.line.proofs.Grammar.{first-bytes, no-newline}
+use Rattle.line.specs.Grammar.{Writes, IsLine}
+use Rattle.line.proofs.Grammar.{parsed-exactly, first-bytes, no-newline}
 use Rattle.line.proofs.Newline.{after-newline}
 use Rattle.line.proofs.Scanning.{digits-more}
 use Rattle.record.specs.Format.{recordLength}
@@ -146,6 +146,14 @@ first-decide s = alike (take 55 s) s (first-bytes s)
 -- PROMISE. Bytes behind the first newline change nothing.
 pub newline-ends : (s t u : List ℕ) → answerText (s ++ newline ∷ t) ≡ answerText (s ++ newline ∷ u)
 newline-ends s t u = alike (s ++ newline ∷ t) (s ++ newline ∷ u) (after-newline t u s)
+
+-- PROMISE. Input that does not begin with such a line is a bad line.
+pub other-bad : (s : List ℕ) → ((l : Line) → IsLine s l → ⊥) → answerText s ≡ badText
+other-bad s h = by (lineOf s) refl
+  where
+    by : (a : LineAnswer) → lineOf s ≡ a → answerText s ≡ badText
+    by BadLine e = sym (bad s e)
+    by (Parsed l) e = absurd (h l (parsed-exactly s l .0 e))
 
 -- PROMISE. Input without a newline is a bad line.
 pub no-newline-bad : (s : List ℕ) → ((i : ℕ) → getD s i 0 ≡ newline → ⊥) → answerText s ≡ badText

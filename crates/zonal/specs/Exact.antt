@@ -48,6 +48,6 @@ exactUt1 n = + 10 *ℤ ut1Sum (exactRowSine n) (exactRowCosine n)
 abbrev pub exactLod : ℤ → ℤ
 exactLod n = + 1000 *ℤ lodSum (exactRowSine n) (exactRowCosine n)
 
--- exact rate, in units of 10^-20 radian per second, over the denominator
+-- exact rate, in 10^-20 rad/s, over the denominator
 abbrev pub exactRate : ℤ → ℤ
 exactRate n = + 100 *ℤ rateSum (exactRowSine n) (exactRowCosine n)

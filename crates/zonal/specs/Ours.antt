@@ -32,7 +32,7 @@ ourUt1 x = rounded (+ 10) (ut1Sum (rowSine x) (rowCosine x))
 abbrev pub ourLod : ℕ → ℤ
 ourLod x = rounded (+ 1000) (lodSum (rowSine x) (rowCosine x))
 
--- rate, in units of 10^-20 radian per second
+-- rate, in 10^-20 rad/s
 abbrev pub ourRate : ℕ → ℤ
 ourRate x = rounded (+ 100) (rateSum (rowSine x) (rowCosine x))
 

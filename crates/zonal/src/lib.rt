@@ -14,7 +14,7 @@ ghost use Rattle.zonal.specs.Coefficients.{coefficients};
 ghost use Rattle.zonal.specs.Ours as ours;
 ghost use Rattle.zonal.specs.Inner.{term, productMost, RowBounds, sumsAt};
 
-// UT1 in nanoseconds, length of day in picoseconds, rate in units of 10^-20 radian per second.
+// UT1 in nanoseconds, length of day in picoseconds, rate in 10^-20 rad/s.
 pub struct Corrections {
     pub ut1: i32,
     pub lod: i32,
