@@ -6,6 +6,8 @@
 #   make bench               times against plain C
 #   make install PREFIX=..   header, archive, program, pkg-config file, manual page, notice, licence and the source of the routines
 #   make version             the version, which the header has too
+#   make lint                the layout of the C files, where clang-format is installed
+#   make clean               removes what was made
 
 RT ?= rt
 CC ?= cc
@@ -22,7 +24,9 @@ CRATES = crates.txt $(shell find crates -name '*.rt' -o -name '*.antt')
 SOURCE = $(shell find crates -path '*/src/*.rt' -o -path '*/specs/*.antt')
 DOC = $(DESTDIR)$(PREFIX)/share/doc/enfysgar
 
-.PHONY: all archive program demo examples bench test install version clean
+C_FILES = $(wildcard include/*.h tests/*.c tests/*.h examples/*.c bench/*.c)
+
+.PHONY: all archive program demo examples bench test install version lint clean
 
 all: archive program
 
@@ -67,6 +71,13 @@ install: $(ARCHIVE) $(PROGRAM)
 
 version:
 	@echo $(VERSION)
+
+lint:
+	@if command -v clang-format >/dev/null; then \
+	    clang-format --dry-run -Werror $(C_FILES) && echo "lint: the C files are in their layout"; \
+	else \
+	    echo "lint: clang-format is not installed, nothing was looked at"; \
+	fi
 
 clean:
 	rm -rf build target

@@ -14,10 +14,10 @@ from fnmatch import fnmatchcase
 from pathlib import Path
 
 DOCUMENTS = ["PROMISES", "RULES", "DECISIONS", "WRONG_PROGRAMS"]
-# words in backticks that are no names of ours: keywords, the C library's, what the program writes, placeholders
-NO_NAMES = {"requires", "fmod", "refused", "count", "must-fail", "NoX", "_"}
-# folders that are made and not kept
-MADE = ("target/", "build/")
+# words in backticks that are no names of ours: keywords, the C library's, the kit's, what the program writes, placeholders
+NO_NAMES = {"requires", "fmod", "must-fail", "RT_JOBS", "refused", "count", "NoX", "_"}
+# folders that are made or installed, and not kept
+MADE = ("target/", "build/", "share/")
 
 NAME = r"[^\W\d][\w′]*(?:-[\w′]+)*"
 CITED = re.compile(r"`([^`\n]+)`|(?<![\w/.*-])((?:crates|docs|tests|tools|include|examples|bench|packaging|\.ci)/[\w*./-]*[\w*/])")
@@ -105,16 +105,19 @@ class Document:
         """A citation: a path, an edit, a name, or an expression with names in it."""
         tree = self.tree
         edit = re.fullmatch(r"(\w+)/([\w*]+)", text)
-        if place in self.labels:
+        if text.startswith(MADE):
+            pass
+        elif place in self.labels:
             label = f"{self.labels[place]}/{text}"
             self.cite("edit", place, text, label in tree.edits)
             self.cited["edit"].add(label)
         elif self.name == "WRONG_PROGRAMS" and edit and not tree.exists(edit.group(1)):
             self.cite("edit", place, text, any(fnmatchcase(e, text) for e in tree.edits))
+        elif self.name == "WRONG_PROGRAMS" and any(e.endswith("/" + text) for e in tree.edits):  # a label in a sentence that names its crate
+            self.cite("edit", place, text, True)
         elif "/" in text and " " not in text:
-            if not text.startswith(MADE):
-                self.cite("path", place, text, self.path(re.sub(r"\b(NAME|LABEL)\b", "*", text)))
-                self.spans.append((place, place + len(text), text))
+            self.cite("path", place, text, self.path(re.sub(r"\b(NAME|LABEL)\b", "*", text)))
+            self.spans.append((place, place + len(text), text))
         elif "*" in text and " " not in text:
             self.cite("name", place, text, any(fnmatchcase(n, text) for n in tree.names))
         else:
