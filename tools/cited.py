@@ -4,8 +4,8 @@
     tools/cited.py [ROOT] [--self-test]
 
 Names in backticks are defined in crates/ or include/enfysgar.h, paths exist, and a name stands in the file that is named with it. In docs/PROMISES.md each field of the
-three demands and each theorem marked PROMISE is cited; in docs/WRONG_PROGRAMS.md each must-fail edit. With --self-test each citation is then misspelt in turn, in
-memory, and each of these mistakes must be noticed."""
+three demands and each theorem marked PROMISE is cited; in docs/WRONG_PROGRAMS.md each must-fail edit. With --self-test mistakes are then planted one by one, in memory,
+and each of them must be noticed."""
 
 import re
 import sys
@@ -229,22 +229,31 @@ def links(root):
 
 
 def self_test(tree, documents):
-    """Misspells each citation in turn, and adds a field, a promise and an edit that no document cites. Returns the number of mistakes, and those that were not noticed."""
-    count, missed = 0, []
-    for document in documents.values():
+    """Plants mistakes: each citation misspelt; in each row of docs/PROMISES.md another file, and a statement that is no field; a field, a promise and an edit that no
+    document cites. Returns the number of mistakes, and those that were not noticed."""
+    planted = []
+    for name, document in documents.items():
         for kind, place, text in document.citations:
             last = place + max(i for i, c in enumerate(text) if c.isalnum())
-            planted = document.text[:last] + "q" + document.text[last:]
-            count += 1
-            if not set(check(tree, document.name, planted).wrong) - set(document.wrong):
-                missed.append(f"docs/{document.name}.md: {kind} {text}, misspelt")
+            planted.append((name, f"{kind} {text}, misspelt", last, last, "q"))
+    for header, cells in documents["PROMISES"].rows():
+        for column, (place, cell) in zip(header, cells):
+            if column == "File":
+                planted.append(("PROMISES", f"{cell.strip()}, another file", place, place + len(cell), "crates/instants/specs/Lib.antt"))
+            if column == "Statement" and not re.search(r"\w", re.sub(r"`[^`]*`", "", cell)):
+                planted.append(("PROMISES", f"{cell.strip()}, another name", place, place + len(cell), "`firstRefusal`"))
+    missed = []
+    for name, words, start, end, instead in planted:
+        document = documents[name]
+        if not set(check(tree, name, document.text[:start] + instead + document.text[end:]).wrong) - set(document.wrong):
+            missed.append(f"docs/{name}.md: {words}")
     tree.fields["planted-field"] = tree.promised["planted-promise"] = "planted"
     tree.edits.add("planted/edit")
-    for name, planted in (("PROMISES", "planted-field"), ("PROMISES", "planted-promise"), ("WRONG_PROGRAMS", "planted/edit")):
-        count += 1
-        if not any(planted in words for words in check(tree, name, documents[name].text).wrong):
-            missed.append(f"docs/{name}.md: {planted}, not cited")
-    return count, missed
+    for name, new in (("PROMISES", "planted-field"), ("PROMISES", "planted-promise"), ("WRONG_PROGRAMS", "planted/edit")):
+        planted.append(new)
+        if not any(new in words for words in check(tree, name, documents[name].text).wrong):
+            missed.append(f"docs/{name}.md: {new}, not cited")
+    return len(planted), missed
 
 
 def main():
