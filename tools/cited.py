@@ -77,13 +77,13 @@ class Document:
         self.tree, self.name, self.text = tree, name, text
         self.citations, self.wrong = [], []
         self.cited = defaultdict(set)
-        self.heading, self.section_crates = "", []
+        self.section_crates = []
         self.spans = []  # (start, end, name or path) of what stands in backticks, for names that are given with their file
         self.labels = self.label_places() if name == "WRONG_PROGRAMS" else {}
         place = 0
         for line in text.splitlines(keepends=True):
             if line.startswith("#"):
-                self.heading, self.section_crates = line.strip("# \n"), []
+                self.section_crates = []
             if not line.startswith("    "):  # an indented line is a command
                 for found in CITED.finditer(line):
                     self.one(place + found.start(found.lastindex), found.group(found.lastindex))
