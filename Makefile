@@ -65,6 +65,9 @@ install: $(ARCHIVE) $(PROGRAM)
 	install -m 755 $(PROGRAM) $(DESTDIR)$(PREFIX)/bin/
 	install -m 644 packaging/run_day.1 $(DESTDIR)$(PREFIX)/share/man/man1/
 	install -m 644 NOTICE LICENSE CHANGELOG.md docs/DIFFERENCES.md docs/RULES.md $(DOC)/
+	install -d $(DESTDIR)$(PREFIX)/share/enfysgar/docs
+	install -m 644 NOTICE LICENSE $(DESTDIR)$(PREFIX)/share/enfysgar/
+	install -m 644 docs/DIFFERENCES.md $(DESTDIR)$(PREFIX)/share/enfysgar/docs/
 	for file in $(SOURCE); do install -D -m 644 $$file $(DESTDIR)$(PREFIX)/share/enfysgar/$$file || exit 1; done
 	sed -e 's|@PREFIX@|$(PREFIX)|' -e 's|@VERSION@|$(VERSION)|' packaging/enfysgar.pc.in \
 	    >$(DESTDIR)$(PREFIX)/lib/pkgconfig/enfysgar.pc

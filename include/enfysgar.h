@@ -10,17 +10,17 @@
  * The archive is for x86-64 Linux.
  *
  * Any value of any parameter is answered; nothing has to be checked first, and
- * what cannot be answered is refused by a number (the table below). The one
- * exception are pointers: `length` bytes of real memory must stand behind one,
- * and a buffer that is written must not overlap another argument. No call keeps
- * anything between two calls, allocates memory, or reads or writes anything but
- * its arguments, so any number of threads may call at once.
+ * what cannot be answered is refused by a number (the table below). Pointers are
+ * the one exception: `length` bytes of the caller's memory must stand behind one.
+ * No call keeps anything between two calls, allocates memory, or reads or writes
+ * anything but its arguments, so any number of threads may call at once.
  *
  * Only the calls of (d) use floating point, and only they depend on the thread's
  * floating-point environment. They need what a C program starts with: binary64
- * rounded to nearest, subnormal numbers not flushed to zero, and an exact fmod, as
- * glibc's is. After fesetround(), or where flush-to-zero was switched on (as
- * -ffast-math may do), their bits can be others. All other calls work in whole
+ * rounded to nearest, subnormal numbers not flushed to zero, no floating-point
+ * exception trapped, and an exact fmod, as glibc's is. After fesetround(), or where
+ * flush-to-zero was switched on (as -ffast-math may do), frequency and phase can
+ * have other bits. They may raise the inexact flag. All other calls work in whole
  * numbers and give the same answers in any environment.
  *
  * Words used below
@@ -138,10 +138,11 @@ uint32_t enfys_split_refusal(int64_t day, uint64_t micros);
  * quotient. Refused: 8 (the day word), 9 (the micros), 10 (the mark is not the day
  * word mod 8; a mark above 7 never is), in this order.
  *
- * 10 shows that the two words were not made on one day. That it is not given shows
- * that they were, if they were taken less than eight days apart, and the answer is
- * then the moment of the time word. Days eight, or a multiple of eight, apart have
- * the same mark: such words are joined, and nothing here can notice it.
+ * 10 shows that the two words were not made on one day. Refusal 0 shows that they
+ * were, if their day numbers differ by less than eight, and the answer is then the
+ * moment of the time word. Day numbers that differ by a multiple of eight have the
+ * same mark: such words are joined, and nothing here can notice it (23:59 of a day
+ * and 0:00 of the eighth day after it are such, though less than eight days apart).
  */
 int64_t enfys_join_day(int64_t day_word, uint64_t time_word);
 uint64_t enfys_join_micros(int64_t day_word, uint64_t time_word);
@@ -175,6 +176,7 @@ uint32_t enfys_tide_refusal(int64_t day, uint64_t micros, int64_t k1, int64_t k2
  *   lod   effect on the length of day, in picoseconds, within 200
  *   rate  effect on the rotation rate, in 10^-20 radian per second, within 20
  *
+ * The exact sums are those of RULES.md, which is installed with this header.
  * Refused: 8, 9, in this order.
  *
  * Each of these calls computes the whole sum of sixty-two terms again. A caller
@@ -210,9 +212,9 @@ uint32_t enfys_nutation_refusal(int64_t day, uint64_t micros);
  *   24-27  rate   /
  *   28-29  the number that makes the sum of all fifteen 16-bit words 0 modulo 65536
  *
- * `buffer` and `bytes` point to `length` bytes of the caller's, which nothing
- * else may write during the call. With length 0 the pointer is not used, and may
- * be NULL.
+ * `buffer` and `bytes` point to `length` bytes of the caller's. During the call
+ * nothing else may write them, nor read what the call writes. With length 0 the
+ * pointer is not used, and may be NULL.
  */
 
 /*

@@ -10,6 +10,7 @@ import datetime
 import os
 import random
 import re
+import signal
 import subprocess
 import sys
 import time
@@ -232,9 +233,16 @@ def answer_without_input():
 
 
 def answers_not_written(data):
-    """What is said where standard output is full, and where it is closed: the status and standard error."""
+    """The status and standard error where standard output is full, is closed, or is a pipe that nobody reads, with SIGPIPE ignored and not; and what they should be."""
     for redirect in (">/dev/full", ">&-"):
-        yield subprocess.run(["sh", "-c", f'exec "$0" {redirect}', PROGRAM], input=data, stderr=subprocess.PIPE, check=False)
+        yield subprocess.run(["sh", "-c", f'exec "$0" {redirect}', PROGRAM], input=data, stderr=subprocess.PIPE, check=False), (0, NOT_WRITTEN)
+    for ignored, want in ((True, (0, NOT_WRITTEN)), (False, (-signal.SIGPIPE, b""))):
+        reading, writing = os.pipe()
+        os.close(reading)
+        # Python itself ignores SIGPIPE, and hands that on unless signals are restored
+        done = subprocess.run([PROGRAM], input=data, stdout=writing, stderr=subprocess.PIPE, restore_signals=not ignored, check=False)
+        os.close(writing)
+        yield done, want
 
 
 def fail(data, got, want, more=""):
@@ -267,10 +275,12 @@ def main():
     for got in answer_without_input():
         if got != BAD:
             fail(b"no input", got, BAD)
+    unwritten = 0
     for data in (day, b"2007 12 31 97 900\n", b"\n"):
-        for done in answers_not_written(data):
-            if done.returncode != 0 or done.stderr != NOT_WRITTEN:
-                fail(data, done.stderr, NOT_WRITTEN, f" on standard error, status {done.returncode} (output that cannot be written)")
+        for done, (status, said) in answers_not_written(data):
+            unwritten += 1
+            if done.returncode != status or done.stderr != said:
+                fail(data, done.stderr, said, f" on standard error, status {done.returncode} where {status} should be (output that cannot be written)")
 
     for mistake in MISTAKES:
         if all(expected(data, runs, mistake) == got for data, got in zip(all_inputs, outputs)):
@@ -279,7 +289,7 @@ def main():
     if few:
         sys.exit(f"run_day: too few inputs are answered by {few}")
     print(f"run_day: {len(all_inputs) + 8} inputs compared "
-          f"({', '.join(f'{n} {kind}' for kind, n in sorted(kinds.items()))}), 6 answers that could not be written")
+          f"({', '.join(f'{n} {kind}' for kind, n in sorted(kinds.items()))}), {unwritten} answers that could not be written")
     print(f"run_day: {len(MISTAKES)} mistakes of the rule noticed")
 
 

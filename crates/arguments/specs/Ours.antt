@@ -1,5 +1,6 @@
 -- Our arguments and angles in whole numbers: an angle is in units of 2^-41 turn. Time is a natural number, each argument is the difference of
 -- two halves, polynomials whose coefficients are not negative, and every quotient is rounded down.
+-- Derived from the IERS routines TDFRPH (the arguments) and RG_ZONT2 (the rows); not IERS Conventions software (NOTICE, docs/DIFFERENCES.md).
 use mathlib.Core.List.{List, [], _∷_}
 use Prim.Native.Nat.{ℕ, _+_, _*_, _-_, _/_, _%_, _^_}
 use lib.IntN.{ℤ, _+ℤ_, natAbs}

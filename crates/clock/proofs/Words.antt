@@ -72,7 +72,7 @@ join-then-split d t i e =
     let s : splitOf d (t % markUnit) ≡ Split (words d (timeWord d (t % markUnit))) = split-accepted d (t % markUnit) (accepted d (t % markUnit) (j .accepted .inside) (j .accepted .less)) in
     rw (j .is) (s ∙ ap (λ (k : ℕ). Split (words d k)) w)
 
--- ---- two moments less than eight days apart
+-- ---- two moments whose day numbers differ by less than eight
 
 shift : (a b c : ℤ) → (a +ℤ c) -ℤ (b +ℤ c) ≡ a -ℤ b
 shift a b c =
@@ -102,7 +102,7 @@ pub record JoinedExactly (d e : ℤ) (m : ℕ) : Type 0 where
   pub same : d ≡ e → joinOf d (timeWord e m) ≡ Joined (instant e m)
   pub other : (d ≡ e → ⊥) → joinOf d (timeWord e m) ≡ NoJoin 10
 
--- PROMISE. The day word of one accepted moment and the time word of another, less than eight days away, are joined exactly when
+-- PROMISE. The day word of one accepted moment and the time word of another, whose day numbers differ by less than eight, are joined exactly when
 -- both moments are of one day, and then give the moment of the time word. Otherwise they are refused by number 10.
 pub joined-exactly : (d e : ℤ) (k m : ℕ) → IsAccepted d k → IsAccepted e m → natAbs (d -ℤ e) < 8 → JoinedExactly d e m
 unfolding joinOf

@@ -64,7 +64,7 @@ pub fn day_at_index(n: u64) -> i64
     (n as i64) - SIGNED_OFFSET
 }
 
-// Whether an instant is accepted: the index of its day, or refusal 8 or 9. Every service asks here.
+// Whether an instant is accepted: the index of its day, or refusal 8 or 9. Every service that is given an instant asks here.
 pub fn accept(day: i64, micros: u64) -> Acceptance
     ensures { λ r. ⌜ r ≡ acceptance day micros ⌝ }
 {

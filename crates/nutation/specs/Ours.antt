@@ -1,5 +1,6 @@
 -- Our offsets in whole numbers, at the moment x. An angle is in units of 2^-41 turn, a sine in units of 2^-31, an amplitude in units
 -- of 2^-10 hundredths of a microarcsecond. Quotients are rounded down, and the offsets to the nearest whole nanoarcsecond.
+-- Derived from the IERS routine FCNNUT; not IERS Conventions software (NOTICE, docs/DIFFERENCES.md).
 use mathlib.Core.List.{List}
 use Prim.Native.Nat.{ℕ, _*_, _-_, _/_, _%_, _^_}
 use lib.IntN.{ℤ, pos, negℤ, _+ℤ_, _-ℤ_, _*ℤ_}

@@ -43,8 +43,8 @@ pub record Exactness : Type 0 where
   pub instant-of-date : (y m d h n s u : ℕ) (t : Instant) → instantOf y m d h n s u ≡ AtInstant t → (dayOf y m d ≡ Day (t .day)) × IsAccepted (t .day) (t .micros)
   -- (c) an accepted instant is split and joined again
   pub split-and-joined : (d : ℤ) (m : ℕ) → IsAccepted d m → (splitOf d m ≡ Split (words d (timeWord d m))) × (joinOf d (timeWord d m) ≡ Joined (instant d m))
-  -- the day word of one moment and the time word of another, less than eight days away, are joined exactly when both are of one day,
-  -- and then give the moment of the time word
+  -- the day word of one accepted moment and the time word of another, whose day numbers differ by less than eight, are joined exactly when both are of
+  -- one day, and then give the moment of the time word
   pub joined-exactly : (d e : ℤ) (k m : ℕ) → IsAccepted d k → IsAccepted e m → natAbs (d -ℤ e) < 8
       → (d ≡ e → joinOf d (timeWord e m) ≡ Joined (instant e m)) × ((d ≡ e → ⊥) → joinOf d (timeWord e m) ≡ NoJoin 10)
   -- (d) the frequency is a finite number, the phase is at least 0 and below 360, and six zero multipliers give +0 and +0

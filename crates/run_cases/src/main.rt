@@ -1,4 +1,4 @@
-// Limits on each side: the count of a run and the seconds of a time of day; and lines of every kind that the program can be given.
+// Limits on each side: the count of a run and the seconds of a time of day; and lines of each kind: answered, refused, bad.
 use calendar::InstantAnswer;
 use libc::STDOUT_FILENO;
 

@@ -11,9 +11,9 @@ use lib.Signed.{ltZ}
 use borrow.Author.Tests.{ltb-true, ltb-false, le-ltb, le-leb}
 use Rattle.calendar.specs.declared.DayAnswer.the-variants.{Day, NoDay}
 use Rattle.instants.specs.Limits.{lastDay}
-use Rattle.instants.specs.Refusals.{Case, case, refusedOr}
+use Rattle.instants.specs.Refusals.{Case, case, refusedOr, firstRefusal}
 use Rattle.calendar.specs.Dates.{date, leapYear, monthLengths, monthLength, sum, yearLength, daysOfYears, daysBefore, dateIndex, dateCases, dayOf}
-use Rattle.instants.proofs.FirstRefusal.{NoneApplies, in-both, in-each, none-both, none-answered}
+use Rattle.instants.proofs.FirstRefusal.{NoneApplies, in-both, in-each, none-both, none-answered, first-below}
 use Rattle.calendar.proofs.Inverse.{there-and-back, date-range}
 use Rattle.line.specs.declared.Line.{Line}
 use Rattle.line.specs.declared.LineAnswer.{LineAnswer}
@@ -68,10 +68,10 @@ line-answer s l e =
 is-digit : (d : ℕ) → d < 10 → isDigit (48 + d) ≡ true
 is-digit d h = rw (le-leb 48 (48 + d) (omega arith), le-leb (48 + d) 57 (omega arith)) refl
 
--- PROMISE. The digits of a refusal's text write its number, which is below 100 for every refusal.
-pub refusal-number : (n : ℕ) → n < 100 → Writes (numerals n) n
+-- the numerals of a number below 100 write it
+numerals-write : (n : ℕ) → n < 100 → Writes (numerals n) n
 unfolding digits decimalFrom
-refusal-number n h = by (ltb n 10) refl
+numerals-write n h = by (ltb n 10) refl
   where
     by : (b : Bool) → ltb n 10 ≡ b → Writes (cond b ((48 + n) ∷ []) ((48 + n / 10) ∷ (48 + n % 10) ∷ [])) n
     by true p = record {
@@ -86,6 +86,10 @@ refusal-number n h = by (ltb n 10) refl
       few = omega arith;
       value = omega arith;
     }
+
+-- PROMISE. The numerals in the text of a line's refusal write the refusal's number.
+pub refusal-number : (l : Line) → Writes (numerals (firstRefusal (shortCases l))) (firstRefusal (shortCases l))
+refusal-number l = numerals-write (firstRefusal (shortCases l)) (first-below 100 (shortCases l) (omega arith) tt)
 
 -- ---- how much is written
 

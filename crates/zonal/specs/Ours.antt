@@ -1,4 +1,5 @@
 -- Our corrections: three whole numbers, and the answer for every day number and every number of microseconds.
+-- Derived from the IERS routine RG_ZONT2; not IERS Conventions software (NOTICE, docs/DIFFERENCES.md).
 use Prim.Native.Nat.{ℕ, _^_}
 use lib.IntN.{ℤ, _+ℤ_, _*ℤ_}
 use lib.Signed.{shrZ}
