@@ -159,8 +159,8 @@ uint32_t enfys_join_refusal(int64_t day_word, uint64_t time_word);
  * Left to the caller: the phase is that of the expression, without the 90 degrees
  * that are subtracted where degree plus species is odd, and without the 180 that
  * some normalizations of the potential add. The hour angle in it is that of the
- * instant's TT, not of UT1, from which it differs by 360 * k1 * (TT - UT1) / day
- * degrees: for M2 by about half a degree in 2009.
+ * instant's TT. With the hour angle of UT1 the phase would be smaller by
+ * 360 * k1 * (TT - UT1) / day degrees: for M2 by about half a degree in 2009.
  */
 double enfys_tide_frequency(int64_t day, uint64_t micros, int64_t k1, int64_t k2,
                             int64_t k3, int64_t k4, int64_t k5, int64_t k6);

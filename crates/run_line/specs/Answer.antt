@@ -1,6 +1,6 @@
 -- What the program writes for its input: the run that the first line asks for, from 0 h on; a refusal; or a bad line (docs/RULES.md).
 use Prim.Native.Nat.{ℕ, _*_}
-use mathlib.Core.List.{List, _++_}
+use mathlib.Core.List.{List}
 use lib.IntN.{ℤ}
 use Rattle.instants.specs.Refusals.{Case, refusedOr}
 use Rattle.calendar.specs.Dates.{date, dateIndex, dateCases}
