@@ -8,7 +8,7 @@ use native.Mathlib.Omega.{arith}
 use lib.Dec.{ltb}
 use lib.ListN.{length, take, getD}
 use lib.Signed.{ltZ}
-use borrow.Author.Tests.{ltb-true, ltb-false, le-ltb, le-leb}
+use borrow.Author.Tests.{ltb-true, le-ltb, le-leb}
 use Rattle.calendar.specs.declared.DayAnswer.the-variants.{Day, NoDay}
 use Rattle.instants.specs.Limits.{lastDay}
 use Rattle.instants.specs.Refusals.{Case, case, refusedOr, firstRefusal}
@@ -18,7 +18,7 @@ use Rattle.calendar.proofs.Inverse.{there-and-back, date-range}
 use Rattle.line.specs.declared.Line.{Line}
 use Rattle.line.specs.declared.LineAnswer.{LineAnswer}
 use Rattle.line.specs.declared.LineAnswer.the-variants.{Parsed, BadLine}
-use Rattle.line.specs.Lines.{newline, isDigit, digits, decimal, decimalFrom, readNumber, lineOf}
+use Rattle.line.specs.Lines.{newline, isDigit, digits, decimalFrom, readNumber, lineOf}
 use Rattle.line.specs.Grammar.{Writes, IsLine}
 use Rattle.line.proofs.Grammar.{parsed-exactly, first-bytes, no-newline}
 use Rattle.line.proofs.Newline.{after-newline}

@@ -1,13 +1,12 @@
 -- The program's words, byte by byte, and what a copy of them leaves in the buffer. Assumes nothing.
 use Prim.Native.Nat.{ℕ, _+_, _/_, _%_, _≤_, _<_}
-use mathlib.Core.Path.{_≡_, refl, ap, _∙_}
+use mathlib.Core.Path.{_≡_, refl, _∙_}
 use mathlib.Core.List.{List, [], _∷_, _++_}
-use native.Mathlib.Omega.{arith}
 use lib.ListN.{length, take, drop}
 use borrow.Author.Tests.{lt-ltb, le-ltb}
 use Rattle.bigendian.specs.Buffers.{atFront}
 use Rattle.bigendian.proofs.Buffers.{front-copy}
-use Rattle.run_line.specs.Words.{numerals, refusalText, badText}
+use Rattle.run_line.specs.Words.{refusalText, badText}
 
 -- r bytes of text stand at the front of a buffer that was `old` and is `new`
 abbrev pub Puts : (text old : List ℕ) (r : ℕ) (new : List ℕ) → Type 0
@@ -27,6 +26,9 @@ unfolding refusalText
 two-digits n x y h e f = rw (e, f, le-ltb n 10 h) refl
 
 -- "bad line"
-pub bad-line : 98 ∷ 97 ∷ 100 ∷ 32 ∷ 108 ∷ 105 ∷ 110 ∷ 101 ∷ 10 ∷ [] ≡ badText
+abbrev pub badBytes : List ℕ
+badBytes = 98 ∷ 97 ∷ 100 ∷ 32 ∷ 108 ∷ 105 ∷ 110 ∷ 101 ∷ 10 ∷ []
+
+pub bad-line : badBytes ≡ badText
 unfolding badText
 bad-line = refl

@@ -1,19 +1,18 @@
 -- `run_line::answer` meets its contract: each of the three ways out is a law of Answers. Assumes nothing.
 use mathlib.Core.Path.{_≡_, _∙_, ap, sym}
-use mathlib.Core.List.{List}
+use mathlib.Core.List.{List, _++_}
 use Prim.Native.Nat.{ℕ, _≤_}
 use native.Mathlib.Omega.{arith}
 use denote.Ref.{now}
 use lib.IntN.{ℤ}
-use lib.ListN.{length}
+use lib.ListN.{length, drop}
 use mir.Facts.{toZ-ofZ}
-use Rattle.bigendian.specs.Buffers.{atFront}
 use Rattle.line.specs.declared.Line.{Line}
 use Rattle.line.specs.declared.LineAnswer.the-variants.{Parsed}
 use Rattle.line.specs.Lines.{lineOf}
-use Rattle.run_line.specs.Answer.{room, dayRunText, answerText}
+use Rattle.run_line.specs.Answer.{room, dayRunText}
 use Rattle.run_line.proofs.Small.{step-small}
-use Rattle.run_line.proofs.Words.{Puts, copied, bad-line}
+use Rattle.run_line.proofs.Words.{Puts, copied, badBytes, bad-line}
 use Rattle.run_line.proofs.Answers.{date-two-digits, bad, no-date, on-date}
 use borrow.Author.Needs.{needs}
 use Rattle.run_line.proofs.answer.Statement.{statement}
@@ -86,7 +85,8 @@ returns : tie.Need-returns
 returns c =
     let p : tie.After-parse = c .before .before .before .before .before in
     let b = entry p in
-    copied _ _ _ _ _ (c .copy .ensures .0) (c .copy .ensures .1) (bad-line ∙ bad (now (b .args .s)) (sym (p .parse .ensures) ∙ (c .before .before .before .enum-told .given .1)))
+    let put : c .copy .last .1 .0 ≡ badBytes ++ drop 9 (now (b .args .buffer)) = c .copy .ensures .1 in
+    copied badBytes _ _ _ _ (c .copy .ensures .0) put (bad-line ∙ bad (now (b .args .s)) (sym (p .parse .ensures) ∙ (c .before .before .before .enum-told .given .1)))
 
 returns-2 : tie.Need-returns-2
 returns-2 c =
