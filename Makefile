@@ -4,7 +4,8 @@
 #   make test                the whole gate
 #   make examples            the example daemon, held to its stored output
 #   make bench               times against plain C
-#   make install PREFIX=..   header, archive, program, pkg-config file, manual page, notice, licence and the source of the routines
+#   make install PREFIX=..   header, archive, program, pkg-config file, manual page, notice, licence, rules, differences, changes
+#                            and the source of the routines; PREFIX has no spaces
 #   make version             the version, which the header has too
 #   make lint                the layout of the C files, where clang-format is installed
 #   make clean               removes what was made

@@ -1,5 +1,5 @@
 #!/usr/bin/env python3
-"""The documents cite only what exists, and all of what they should.
+"""Four documents (DOCUMENTS) cite only what exists, and all of what they should; links of README.md and docs/ lead somewhere.
 
     tools/cited.py [ROOT] [--self-test]
 

@@ -254,6 +254,8 @@ def main():
         if wrong:
             sys.exit(1)
         print(f"crates: {len(stands)}, picture and table as crates.txt says")
+    elif sys.argv[1:]:
+        sys.exit("usage: tools/crates_picture.py [--check]")
     else:
         PICTURE.write_text(picture, encoding="utf-8")
 
