@@ -147,7 +147,7 @@ fn month(leap: u64, e: u64) -> u64
     (12 * (e + 2 - leap) + 373) / 367
 }
 
-// The lesser of x and 3: of four centuries and of four years the last has a day more than the others, on which the quotient would be 4.
+// The lesser of x and 3: the last of four centuries has a day more than the others, and the last of four years may have one; on it the quotient would be 4.
 fn capped(x: u64) -> u64
     ensures { λ r. ⌜ AtMost3 x r ⌝ }
 {

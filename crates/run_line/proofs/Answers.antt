@@ -52,20 +52,20 @@ module _ (d : ℤ) (count step : ℕ) where
 
 -- ---- a line
 
+-- a date's refusal has two digits at most
+pub date-two-digits : (l : Line) (n : ℕ) → dayOf (l .year) (l .month) (l .day) ≡ NoDay n → n < 100
+unfolding dayOf
+date-two-digits l n f =
+    let cs = dateCases (l .year) (l .month) (l .day) in
+    let p : firstRefusal cs ≡ n = refused-alike NoDay (λ k. k) cs (Day (lineDay l)) 0 n (λ k p. cc) (λ p. impossible (cc)) f in
+    rw (← p) (first-below 100 cs (omega arith) tt)
+
 module _ (s : List ℕ) where
   pub bad : lineOf s ≡ BadLine → badText ≡ answerText s
   unfolding answerText
   bad e = rw e refl
 
   module _ (l : Line) (e : lineOf s ≡ Parsed l) where
-    -- a date's refusal has two digits at most
-    pub date-two-digits : (n : ℕ) → dayOf (l .year) (l .month) (l .day) ≡ NoDay n → n < 100
-    unfolding dayOf
-    date-two-digits n f =
-        let cs = dateCases (l .year) (l .month) (l .day) in
-        let p : firstRefusal cs ≡ n = refused-alike NoDay (λ k. k) cs (Day (lineDay l)) 0 n (λ k p. cc) (λ p. impossible (cc)) f in
-        rw (← p) (first-below 100 cs (omega arith) tt)
-
     pub no-date : (n : ℕ) → dayOf (l .year) (l .month) (l .day) ≡ NoDay n → refusalText n ≡ answerText s
     unfolding answerText dayOf
     no-date n f =

@@ -1,17 +1,15 @@
 -- What is promised of what the program writes: which refusals a line can have, how many bytes there are at most, that a refusal's digits are its number's,
 -- and which bytes of the input decide. Assumes nothing.
-use Prim.Native.Nat.{ℕ, _+_, _-_, _*_, _/_, _%_, _≤_, _<_}
+use Prim.Native.Nat.{ℕ, _+_, _*_, _/_, _%_, _≤_, _<_}
 use mathlib.Core.Path.{_≡_, refl, ap, sym, _∙_}
 use mathlib.Core.Bool.{Bool, true, false, cond}
 use mathlib.Core.List.{List, [], _∷_, _++_}
 use native.Mathlib.Omega.{arith}
 use lib.Dec.{ltb}
 use lib.ListN.{length, take, getD}
-use lib.Signed.{ltZ}
 use borrow.Author.Tests.{ltb-true, le-ltb, le-leb}
 use Rattle.calendar.specs.declared.DayAnswer.the-variants.{Day, NoDay}
-use Rattle.instants.specs.Limits.{lastDay}
-use Rattle.instants.specs.Refusals.{Case, case, refusedOr, firstRefusal}
+use Rattle.instants.specs.Refusals.{case, refusedOr, firstRefusal}
 use Rattle.calendar.specs.Dates.{date, leapYear, monthLengths, monthLength, sum, yearLength, daysOfYears, daysBefore, dateIndex, dateCases, dayOf}
 use Rattle.instants.proofs.FirstRefusal.{NoneApplies, in-both, in-each, none-both, none-answered, first-below}
 use Rattle.calendar.proofs.Inverse.{there-and-back, date-range}
@@ -24,32 +22,17 @@ use Rattle.line.proofs.Grammar.{parsed-exactly, first-bytes, no-newline}
 use Rattle.line.proofs.Newline.{after-newline}
 use Rattle.line.proofs.Scanning.{digits-more}
 use Rattle.record.specs.Format.{recordLength}
-use Rattle.run.specs.Run.{mostRecords, badCount, badStep, runBytes}
-use Rattle.instants.specs.Instants.{dayAtIndex, laterDay}
+use Rattle.run.specs.Run.{mostRecords, badCount}
+use Rattle.instants.specs.Instants.{dayAtIndex}
 use Rattle.instants.proofs.Accepted.{between}
 use Rattle.run.proofs.Records.{run-length}
 use Rattle.calendar.specs.Limits.{secondMicros}
 use Rattle.run_line.specs.Words.{ascii, numerals, refusalText, badText}
 use Rattle.run_line.specs.Answer.{room, lineDay, dayRunText, lineText, answerText}
+use Rattle.run_line.specs.Claims.{shortRunCases, shortCases, lineRun}
 use Rattle.run_line.proofs.Answers.{bad}
 
 -- ---- the refusals
-
--- the refusals that the run of a line can have: 0 h is never refused, and the program's buffer has room for every count
-abbrev pub shortRunCases : Line → List Case
-shortRunCases l =
-    case 17 (badCount (l .count))
-    ∷ case 18 (badStep (l .step * secondMicros))
-    ∷ case 8 (ltZ lastDay (laterDay (lineDay l) 0 ((l .count - 1) * (l .step * secondMicros))))
-    ∷ []
-
--- the refusals that a line can have
-abbrev pub shortCases : Line → List Case
-shortCases l = dateCases (l .year) (l .month) (l .day) ++ shortRunCases l
-
--- the records of the run that a line asks for
-abbrev pub lineRun : Line → List ℕ
-lineRun l = runBytes (lineDay l) 0 (l .step * secondMicros) (l .count)
 
 -- PROMISE. For a line of five numbers the program writes the first of these refusals that applies: 1, 2 and 3 for the date, 17 for the count, 18 for the
 -- step, and 8 for a last instant past the last day; or else the run's records, from 0 h of the line's date on.

@@ -70,7 +70,7 @@ refuse-requires c κs =
     let a : tie.After-day-of = c .before .before .before .before in
     let room-is : length (now (s a .args .buffer)) ≡ room = c .refuse-arg .given .0 .1 in
     let k : 11 ≤ length (now (s a .args .buffer)) = omega (arith, room-is) in
-    let few = date-two-digits (now (s a .args .s)) (l a) (is-line a) _ (sym (a .day-of .ensures) ∙ c .before .before .n .given .1) in
+    let few = date-two-digits (l a) _ (sym (a .day-of .ensures) ∙ c .before .before .n .given .1) in
     (omega (arith, few), k)
 
 enum-known-d : tie.Need-enum-known-d
