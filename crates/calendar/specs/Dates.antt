@@ -84,26 +84,40 @@ dayCases z = case 8 (outside z) ∷ []
 unfoldable pub dateOf : ℤ → DateAnswer
 dateOf z = refusedOr NoDate (dayCases z) (OnDate (dateAfter (dayIndex z)))
 
--- the numbers that the exported calls give for an answer: 0 for success, and zeros beside a refusal
-abbrev pub dayNumberOf : DayAnswer → ℤ
-dayNumberOf (Day d) = d
-dayNumberOf (NoDay n) = pos 0
+-- the numbers of an answer, or z where it is a refusal: what the call of the whole answer leaves where z was
+abbrev pub dayNumberOr : ℤ → DayAnswer → ℤ
+dayNumberOr z (Day d) = d
+dayNumberOr z (NoDay n) = z
 
+abbrev pub yearOr : ℕ → DateAnswer → ℕ
+yearOr z (OnDate t) = t .year
+yearOr z (NoDate n) = z
+
+abbrev pub monthOr : ℕ → DateAnswer → ℕ
+monthOr z (OnDate t) = t .month
+monthOr z (NoDate n) = z
+
+abbrev pub dayOfMonthOr : ℕ → DateAnswer → ℕ
+dayOfMonthOr z (OnDate t) = t .day
+dayOfMonthOr z (NoDate n) = z
+
+-- what the call of one number gives: 0 beside a refusal
+abbrev pub dayNumberOf : DayAnswer → ℤ
+dayNumberOf = dayNumberOr (pos 0)
+
+abbrev pub yearOf : DateAnswer → ℕ
+yearOf = yearOr 0
+
+abbrev pub monthOf : DateAnswer → ℕ
+monthOf = monthOr 0
+
+abbrev pub dayOfMonthOf : DateAnswer → ℕ
+dayOfMonthOf = dayOfMonthOr 0
+
+-- the refusal number, 0 for none
 abbrev pub dateRefusalOf : DayAnswer → ℕ
 dateRefusalOf (Day d) = 0
 dateRefusalOf (NoDay n) = n
-
-abbrev pub yearOf : DateAnswer → ℕ
-yearOf (OnDate t) = t .year
-yearOf (NoDate n) = 0
-
-abbrev pub monthOf : DateAnswer → ℕ
-monthOf (OnDate t) = t .month
-monthOf (NoDate n) = 0
-
-abbrev pub dayOfMonthOf : DateAnswer → ℕ
-dayOfMonthOf (OnDate t) = t .day
-dayOfMonthOf (NoDate n) = 0
 
 abbrev pub dayRefusalOf : DateAnswer → ℕ
 dayRefusalOf (OnDate t) = 0

@@ -24,15 +24,23 @@ instantOf year month day hour minute second microsecond =
     refusedOr NoInstant (dateCases year month day ++ timeCases hour minute second microsecond)
     (AtInstant (instant (dayAtIndex (dateIndex (date year month day))) (microsOfTime hour minute second microsecond)))
 
--- the numbers that the exported calls give for an answer
+-- the numbers of an answer, or z where it is a refusal: what the call of the whole answer leaves where z was
+abbrev pub instantDayOr : ℤ → InstantAnswer → ℤ
+instantDayOr z (AtInstant t) = t .day
+instantDayOr z (NoInstant n) = z
+
+abbrev pub instantMicrosOr : ℕ → InstantAnswer → ℕ
+instantMicrosOr z (AtInstant t) = t .micros
+instantMicrosOr z (NoInstant n) = z
+
+-- what the call of one number gives: 0 beside a refusal
 abbrev pub instantDayOf : InstantAnswer → ℤ
-instantDayOf (AtInstant t) = t .day
-instantDayOf (NoInstant n) = pos 0
+instantDayOf = instantDayOr (pos 0)
 
 abbrev pub instantMicrosOf : InstantAnswer → ℕ
-instantMicrosOf (AtInstant t) = t .micros
-instantMicrosOf (NoInstant n) = 0
+instantMicrosOf = instantMicrosOr 0
 
+-- the refusal number, 0 for none
 abbrev pub instantRefusalOf : InstantAnswer → ℕ
 instantRefusalOf (AtInstant t) = 0
 instantRefusalOf (NoInstant n) = n

@@ -45,26 +45,40 @@ joinCases d t = instantCases d (t % markUnit) ++ markCases d t
 unfoldable pub joinOf : ℤ → ℕ → JoinAnswer
 joinOf d t = refusedOr NoJoin (joinCases d t) (Joined (instant d (t % markUnit)))
 
--- the numbers that the exported calls give for an answer
+-- the numbers of an answer, or z where it is a refusal: what the call of the whole answer leaves where z was
+abbrev pub dayWordOr : ℤ → SplitAnswer → ℤ
+dayWordOr z (Split w) = w .day
+dayWordOr z (NoSplit n) = z
+
+abbrev pub timeWordOr : ℕ → SplitAnswer → ℕ
+timeWordOr z (Split w) = w .time
+timeWordOr z (NoSplit n) = z
+
+abbrev pub joinedDayOr : ℤ → JoinAnswer → ℤ
+joinedDayOr z (Joined t) = t .day
+joinedDayOr z (NoJoin n) = z
+
+abbrev pub joinedMicrosOr : ℕ → JoinAnswer → ℕ
+joinedMicrosOr z (Joined t) = t .micros
+joinedMicrosOr z (NoJoin n) = z
+
+-- what the call of one number gives: 0 beside a refusal
 abbrev pub dayWordOf : SplitAnswer → ℤ
-dayWordOf (Split w) = w .day
-dayWordOf (NoSplit n) = pos 0
+dayWordOf = dayWordOr (pos 0)
 
 abbrev pub timeWordOf : SplitAnswer → ℕ
-timeWordOf (Split w) = w .time
-timeWordOf (NoSplit n) = 0
+timeWordOf = timeWordOr 0
 
+abbrev pub joinedDayOf : JoinAnswer → ℤ
+joinedDayOf = joinedDayOr (pos 0)
+
+abbrev pub joinedMicrosOf : JoinAnswer → ℕ
+joinedMicrosOf = joinedMicrosOr 0
+
+-- the refusal number, 0 for none
 abbrev pub splitRefusalOf : SplitAnswer → ℕ
 splitRefusalOf (Split w) = 0
 splitRefusalOf (NoSplit n) = n
-
-abbrev pub joinedDayOf : JoinAnswer → ℤ
-joinedDayOf (Joined t) = t .day
-joinedDayOf (NoJoin n) = pos 0
-
-abbrev pub joinedMicrosOf : JoinAnswer → ℕ
-joinedMicrosOf (Joined t) = t .micros
-joinedMicrosOf (NoJoin n) = 0
 
 abbrev pub joinRefusalOf : JoinAnswer → ℕ
 joinRefusalOf (Joined t) = 0

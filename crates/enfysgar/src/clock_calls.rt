@@ -2,7 +2,25 @@
 use clock::JoinAnswer;
 use clock::SplitAnswer;
 ghost use mathlib.Core.Path.{_≡_};
-ghost use Rattle.clock.specs.Words.{splitOf, joinOf, dayWordOf, timeWordOf, splitRefusalOf, joinedDayOf, joinedMicrosOf, joinRefusalOf};
+ghost use Rattle.clock.specs.Words.{splitOf, joinOf, dayWordOr, timeWordOr, dayWordOf, timeWordOf, splitRefusalOf, joinedDayOr, joinedMicrosOr, joinedDayOf, joinedMicrosOf, joinRefusalOf};
+
+// The two words of an instant, or nothing written. Returns the refusal number.
+#[no_mangle]
+pub extern "C" fn enfys_split(day: i64, micros: u64, day_word: &mut i64, time_word: &mut u64) -> u32
+    ensures refusal { λ r. ⌜ r ≡ splitRefusalOf (splitOf day micros) ⌝ }
+    ensures day_word { λ _. ⌜ now («day_word» .exit) ≡ dayWordOr (now («day_word» .entry)) (splitOf day micros) ⌝ }
+    ensures time_word { λ _. ⌜ now («time_word» .exit) ≡ timeWordOr (now («time_word» .entry)) (splitOf day micros) ⌝ }
+{
+    match clock::split(day, micros) {
+        SplitAnswer::Split(w) => {
+            let d = w.day;
+            *day_word = d;
+            *time_word = w.time;
+            0
+        }
+        SplitAnswer::NoSplit(n) => n,
+    }
+}
 
 // The day word of an instant.
 #[no_mangle]
@@ -34,6 +52,24 @@ pub extern "C" fn enfys_split_refusal(day: i64, micros: u64) -> u32
     match clock::split(day, micros) {
         SplitAnswer::Split(_) => 0,
         SplitAnswer::NoSplit(n) => n,
+    }
+}
+
+// The instant of two clock words, or nothing written. Returns the refusal number.
+#[no_mangle]
+pub extern "C" fn enfys_join(day_word: i64, time_word: u64, day: &mut i64, micros: &mut u64) -> u32
+    ensures refusal { λ r. ⌜ r ≡ joinRefusalOf (joinOf «day_word» «time_word») ⌝ }
+    ensures day { λ _. ⌜ now (day .exit) ≡ joinedDayOr (now (day .entry)) (joinOf «day_word» «time_word») ⌝ }
+    ensures micros { λ _. ⌜ now (micros .exit) ≡ joinedMicrosOr (now (micros .entry)) (joinOf «day_word» «time_word») ⌝ }
+{
+    match clock::join(day_word, time_word) {
+        JoinAnswer::Joined(t) => {
+            let d = t.day;
+            *day = d;
+            *micros = t.micros;
+            0
+        }
+        JoinAnswer::NoJoin(n) => n,
     }
 }
 

@@ -1,7 +1,34 @@
 // Service (f): free-core-nutation offsets, in nanoarcseconds.
 use nutation::NutationAnswer;
 ghost use mathlib.Core.Path.{_≡_};
-ghost use Rattle.nutation.specs.Ours.{nutationOf, xOf, yOf, uncertaintyOf, nutationRefusalOf};
+ghost use Rattle.nutation.specs.Ours.{nutationOf, xOr, yOr, uncertaintyOr, xOf, yOf, uncertaintyOf, nutationRefusalOf};
+
+// Both offsets and their uncertainty, or nothing written. Returns the refusal number.
+#[no_mangle]
+pub extern "C" fn enfys_nutation(
+    day: i64,
+    micros: u64,
+    x: &mut i64,
+    y: &mut i64,
+    uncertainty: &mut u64,
+) -> u32
+    ensures refusal { λ r. ⌜ r ≡ nutationRefusalOf (nutationOf day micros) ⌝ }
+    ensures x { λ _. ⌜ now (x .exit) ≡ xOr (now (x .entry)) (nutationOf day micros) ⌝ }
+    ensures y { λ _. ⌜ now (y .exit) ≡ yOr (now (y .entry)) (nutationOf day micros) ⌝ }
+    ensures uncertainty { λ _. ⌜ now (uncertainty .exit) ≡ uncertaintyOr (now (uncertainty .entry)) (nutationOf day micros) ⌝ }
+{
+    match nutation::nutation_of(day, micros) {
+        NutationAnswer::Nutation(o) => {
+            let ox = o.x;
+            let oy = o.y;
+            *x = ox;
+            *y = oy;
+            *uncertainty = o.uncertainty;
+            0
+        }
+        NutationAnswer::NoNutation(n) => n,
+    }
+}
 
 // The offset X.
 #[no_mangle]

@@ -2,7 +2,7 @@
 use record::ReadAnswer;
 ghost use mathlib.Core.Path.{_≡_};
 ghost use lib.ListN.{length};
-ghost use Rattle.record.specs.Records.{writeRefusal, written, readOf, recordDayOf, recordMicrosOf, recordUt1Of, recordLodOf, recordRateOf, readRefusalOf};
+ghost use Rattle.record.specs.Records.{writeRefusal, written, readOf, recordDayOr, recordMicrosOr, recordUt1Or, recordLodOr, recordRateOr, recordDayOf, recordMicrosOf, recordUt1Of, recordLodOf, recordRateOf, readRefusalOf};
 
 // Writes a record into the first thirty bytes of the buffer. Returns the refusal number.
 #[no_mangle]
@@ -18,6 +18,40 @@ pub extern "C" fn enfys_record_write(
     ensures buffer { λ _. ⌜ now (buffer .exit) ≡ written day micros ut1 lod rate (now (buffer .entry)) ⌝ }
 {
     record::write(day, micros, ut1, lod, rate, buffer)
+}
+
+// The instant and the three numbers in a record, or nothing written. Returns the refusal number.
+#[no_mangle]
+pub extern "C" fn enfys_record_read(
+    s: &[u8],
+    day: &mut i64,
+    micros: &mut u64,
+    ut1: &mut i32,
+    lod: &mut i32,
+    rate: &mut i32,
+) -> u32
+    ensures refusal { λ r. ⌜ r ≡ readRefusalOf (readOf (now (s .entry))) ⌝ }
+    ensures day { λ _. ⌜ now (day .exit) ≡ recordDayOr (now (day .entry)) (readOf (now (s .entry))) ⌝ }
+    ensures micros { λ _. ⌜ now (micros .exit) ≡ recordMicrosOr (now (micros .entry)) (readOf (now (s .entry))) ⌝ }
+    ensures ut1 { λ _. ⌜ now (ut1 .exit) ≡ recordUt1Or (now (ut1 .entry)) (readOf (now (s .entry))) ⌝ }
+    ensures lod { λ _. ⌜ now (lod .exit) ≡ recordLodOr (now (lod .entry)) (readOf (now (s .entry))) ⌝ }
+    ensures rate { λ _. ⌜ now (rate .exit) ≡ recordRateOr (now (rate .entry)) (readOf (now (s .entry))) ⌝ }
+{
+    match record::read(s) {
+        ReadAnswer::IsRecord(t) => {
+            let d = t.day;
+            let u = t.ut1;
+            let l = t.lod;
+            let r = t.rate;
+            *day = d;
+            *micros = t.micros;
+            *ut1 = u;
+            *lod = l;
+            *rate = r;
+            0
+        }
+        ReadAnswer::NoRecord(n) => n,
+    }
 }
 
 // The day number in a record.

@@ -1,7 +1,35 @@
 // Service (e): zonal-tide corrections.
 use zonal::ZonalAnswer;
 ghost use mathlib.Core.Path.{_≡_};
-ghost use Rattle.zonal.specs.Ours.{zonalOf, ut1Of, lodOf, rateOf, zonalRefusalOf};
+ghost use Rattle.zonal.specs.Ours.{zonalOf, ut1Or, lodOr, rateOr, ut1Of, lodOf, rateOf, zonalRefusalOf};
+
+// The three corrections, or nothing written. Returns the refusal number.
+#[no_mangle]
+pub extern "C" fn enfys_zonal(
+    day: i64,
+    micros: u64,
+    ut1: &mut i32,
+    lod: &mut i32,
+    rate: &mut i32,
+) -> u32
+    ensures refusal { λ r. ⌜ r ≡ zonalRefusalOf (zonalOf day micros) ⌝ }
+    ensures ut1 { λ _. ⌜ now (ut1 .exit) ≡ ut1Or (now (ut1 .entry)) (zonalOf day micros) ⌝ }
+    ensures lod { λ _. ⌜ now (lod .exit) ≡ lodOr (now (lod .entry)) (zonalOf day micros) ⌝ }
+    ensures rate { λ _. ⌜ now (rate .exit) ≡ rateOr (now (rate .entry)) (zonalOf day micros) ⌝ }
+{
+    match zonal::zonal_of(day, micros) {
+        ZonalAnswer::Zonal(c) => {
+            let u = c.ut1;
+            let l = c.lod;
+            let r = c.rate;
+            *ut1 = u;
+            *lod = l;
+            *rate = r;
+            0
+        }
+        ZonalAnswer::NoZonal(n) => n,
+    }
+}
 
 // The effect on UT1, in nanoseconds.
 #[no_mangle]

@@ -91,19 +91,30 @@ nutationWith rows d m = refusedOr NoNutation (instantCases d m) (Nutation (ourOf
 unfoldable pub nutationOf : ℤ → ℕ → NutationAnswer
 nutationOf d m = nutationWith builtIn d m
 
--- the numbers that the exported calls give for an answer: zeros beside a refusal, and 0 for success
+-- the numbers of an answer, or z where it is a refusal: what the call of the whole answer leaves where z was
+abbrev pub xOr : ℤ → NutationAnswer → ℤ
+xOr z (Nutation o) = o .x
+xOr z (NoNutation r) = z
+
+abbrev pub yOr : ℤ → NutationAnswer → ℤ
+yOr z (Nutation o) = o .y
+yOr z (NoNutation r) = z
+
+abbrev pub uncertaintyOr : ℕ → NutationAnswer → ℕ
+uncertaintyOr z (Nutation o) = o .uncertainty
+uncertaintyOr z (NoNutation r) = z
+
+-- what the call of one number gives: 0 beside a refusal
 abbrev pub xOf : NutationAnswer → ℤ
-xOf (Nutation o) = o .x
-xOf (NoNutation r) = + 0
+xOf = xOr (+ 0)
 
 abbrev pub yOf : NutationAnswer → ℤ
-yOf (Nutation o) = o .y
-yOf (NoNutation r) = + 0
+yOf = yOr (+ 0)
 
 abbrev pub uncertaintyOf : NutationAnswer → ℕ
-uncertaintyOf (Nutation o) = o .uncertainty
-uncertaintyOf (NoNutation r) = 0
+uncertaintyOf = uncertaintyOr 0
 
+-- the refusal number, 0 for none
 abbrev pub nutationRefusalOf : NutationAnswer → ℕ
 nutationRefusalOf (Nutation o) = 0
 nutationRefusalOf (NoNutation r) = r

@@ -63,34 +63,46 @@ recordOf t s = recordWith (t .day) (t .micros) (signedAt s ut1Field) (signedAt s
 unfoldable pub readOf : List ℕ → ReadAnswer
 readOf s = refusedOr NoRecord (readCases s) (IsRecord (recordOf (instant (pos (fieldAt s dayField)) (fieldAt s timeField % markUnit)) s))
 
--- ---- the numbers that the exported calls give for an answer
+-- ---- the numbers of an answer
 
--- the day number, or 0
+-- each, or z where it is a refusal: what the call of the whole answer leaves where z was
+abbrev pub recordDayOr : ℤ → ReadAnswer → ℤ
+recordDayOr z (IsRecord r) = r .day
+recordDayOr z (NoRecord n) = z
+
+abbrev pub recordMicrosOr : ℕ → ReadAnswer → ℕ
+recordMicrosOr z (IsRecord r) = r .micros
+recordMicrosOr z (NoRecord n) = z
+
+abbrev pub recordUt1Or : ℤ → ReadAnswer → ℤ
+recordUt1Or z (IsRecord r) = r .ut1
+recordUt1Or z (NoRecord n) = z
+
+abbrev pub recordLodOr : ℤ → ReadAnswer → ℤ
+recordLodOr z (IsRecord r) = r .lod
+recordLodOr z (NoRecord n) = z
+
+abbrev pub recordRateOr : ℤ → ReadAnswer → ℤ
+recordRateOr z (IsRecord r) = r .rate
+recordRateOr z (NoRecord n) = z
+
+-- what the call of one number gives: 0 beside a refusal
 abbrev pub recordDayOf : ReadAnswer → ℤ
-recordDayOf (IsRecord r) = r .day
-recordDayOf (NoRecord n) = pos 0
+recordDayOf = recordDayOr (pos 0)
 
--- the microseconds, or 0
 abbrev pub recordMicrosOf : ReadAnswer → ℕ
-recordMicrosOf (IsRecord r) = r .micros
-recordMicrosOf (NoRecord n) = 0
+recordMicrosOf = recordMicrosOr 0
 
--- UT1, or 0
 abbrev pub recordUt1Of : ReadAnswer → ℤ
-recordUt1Of (IsRecord r) = r .ut1
-recordUt1Of (NoRecord n) = pos 0
+recordUt1Of = recordUt1Or (pos 0)
 
--- length of day, or 0
 abbrev pub recordLodOf : ReadAnswer → ℤ
-recordLodOf (IsRecord r) = r .lod
-recordLodOf (NoRecord n) = pos 0
+recordLodOf = recordLodOr (pos 0)
 
--- the rate, or 0
 abbrev pub recordRateOf : ReadAnswer → ℤ
-recordRateOf (IsRecord r) = r .rate
-recordRateOf (NoRecord n) = pos 0
+recordRateOf = recordRateOr (pos 0)
 
--- the refusal number, or 0
+-- the refusal number, 0 for none
 abbrev pub readRefusalOf : ReadAnswer → ℕ
 readRefusalOf (IsRecord r) = 0
 readRefusalOf (NoRecord n) = n

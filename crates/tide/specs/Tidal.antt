@@ -97,15 +97,23 @@ tideCases d m k = instantCases d m ++ rangeCases k
 unfoldable pub tideOf : (d : ℤ) (m : ℕ) → Doodson → TideAnswer
 tideOf d m k = refusedOr NoTide (tideCases d m k) (Tide (constituentOf (argumentsAt d m) k))
 
--- The numbers that the exported calls give: the frequency and the phase, +0 on a refusal, and the refusal number, 0 for none.
+-- the numbers of an answer, or z where it is a refusal: what the call of the whole answer leaves where z was
+abbrev pub frequencyOr : Float → TideAnswer → Float
+frequencyOr z (Tide x) = x .frequency
+frequencyOr z (NoTide n) = z
+
+abbrev pub phaseOr : Float → TideAnswer → Float
+phaseOr z (Tide x) = x .phase
+phaseOr z (NoTide n) = z
+
+-- what the call of one number gives: +0 beside a refusal
 abbrev pub frequencyOf : TideAnswer → Float
-frequencyOf (Tide x) = x .frequency
-frequencyOf (NoTide n) = zero64
+frequencyOf = frequencyOr zero64
 
 abbrev pub phaseOf : TideAnswer → Float
-phaseOf (Tide x) = x .phase
-phaseOf (NoTide n) = zero64
+phaseOf = phaseOr zero64
 
+-- the refusal number, 0 for none
 abbrev pub tideRefusalOf : TideAnswer → ℕ
 tideRefusalOf (Tide x) = 0
 tideRefusalOf (NoTide n) = n

@@ -49,19 +49,30 @@ correctionsAt i m = corrections (ourUt1 (moment i m)) (ourLod (moment i m)) (our
 unfoldable pub zonalOf : ℤ → ℕ → ZonalAnswer
 zonalOf d m = refusedOr NoZonal (instantCases d m) (Zonal (correctionsAt (dayIndex d) m))
 
--- The numbers that the exported calls give: each of the three, 0 on a refusal, and the refusal number, 0 for none.
+-- the numbers of an answer, or z where it is a refusal: what the call of the whole answer leaves where z was
+abbrev pub ut1Or : ℤ → ZonalAnswer → ℤ
+ut1Or z (Zonal c) = c .ut1
+ut1Or z (NoZonal n) = z
+
+abbrev pub lodOr : ℤ → ZonalAnswer → ℤ
+lodOr z (Zonal c) = c .lod
+lodOr z (NoZonal n) = z
+
+abbrev pub rateOr : ℤ → ZonalAnswer → ℤ
+rateOr z (Zonal c) = c .rate
+rateOr z (NoZonal n) = z
+
+-- what the call of one number gives: 0 beside a refusal
 abbrev pub ut1Of : ZonalAnswer → ℤ
-ut1Of (Zonal c) = c .ut1
-ut1Of (NoZonal n) = + 0
+ut1Of = ut1Or (+ 0)
 
 abbrev pub lodOf : ZonalAnswer → ℤ
-lodOf (Zonal c) = c .lod
-lodOf (NoZonal n) = + 0
+lodOf = lodOr (+ 0)
 
 abbrev pub rateOf : ZonalAnswer → ℤ
-rateOf (Zonal c) = c .rate
-rateOf (NoZonal n) = + 0
+rateOf = rateOr (+ 0)
 
+-- the refusal number, 0 for none
 abbrev pub zonalRefusalOf : ZonalAnswer → ℕ
 zonalRefusalOf (Zonal c) = 0
 zonalRefusalOf (NoZonal n) = n

@@ -1,31 +1,12 @@
 -- `enfysgar::clock_calls::enfys_split_time_word` meets its contract. Assumes nothing.
-use mathlib.Core.Path.{_≡_, _∙_, ap, sym}
 use mir.Facts.{toZ-ofZ}
-use lib.IntN.{ℤ}
-use Rattle.clock.specs.Words.{splitOf, timeWordOf}
 use borrow.Author.Needs.{needs}
 use Rattle.enfysgar.proofs.clock_calls.enfys_split_time_word.Statement.{statement}
 use Rattle.enfysgar.proofs.clock_calls.enfys_split_time_word.Tie as tie
 
--- what `split` gave, of the day as it came
-says : (c : tie.After-split) → c .split .result ≡ splitOf (c .before .args .day) (c .before .args .micros)
-says c = c .split .ensures ∙ ap (λ (d : ℤ). splitOf d (c .before .args .micros)) (toZ-ofZ (c .before .fits .day))
-
-split-requires : tie.Need-split-requires
-split-requires c κs = search needs
-
-enum-known-w : tie.Need-enum-known-w
-enum-known-w c = search needs
-
-enum-told : tie.Need-enum-told
-enum-told c = search needs
-
-returns : tie.Need-returns
-returns c = let k = c .before in ap timeWordOf (sym (k .w .given .1) ∙ says (k .before .before))
-
-returns-2 : tie.Need-returns-2
-returns-2 c = ap timeWordOf (sym (c .enum-told .given .1) ∙ says (c .before .before))
-
 pub enfys-split-time-word-spec : {M : Type 1} → statement M
 enfys-split-time-word-spec =
-    tie.close (tie.spec split-requires enum-known-w enum-told returns returns-2)
+    tie.close
+    (tie.spec (λ c κs. tt) (λ c. search needs) (λ c. search needs)
+    (λ c. let v = c .before in let s = v .before .before in rw (← toZ-ofZ (s .before .fits .day), ← s .split .ensures, v .w .given .1) (search needs))
+    (λ c. let s = c .before .before in rw (← toZ-ofZ (s .before .fits .day), ← s .split .ensures, c .enum-told .given .1) (search needs)))

@@ -1,31 +1,12 @@
 -- `enfysgar::nutation_calls::enfys_nutation_refusal` meets its contract. Assumes nothing.
-use mathlib.Core.Path.{_≡_, _∙_, ap, sym}
 use mir.Facts.{toZ-ofZ}
-use lib.IntN.{ℤ}
-use Rattle.nutation.specs.Ours.{nutationOf, nutationRefusalOf}
 use borrow.Author.Needs.{needs}
 use Rattle.enfysgar.proofs.nutation_calls.enfys_nutation_refusal.Statement.{statement}
 use Rattle.enfysgar.proofs.nutation_calls.enfys_nutation_refusal.Tie as tie
 
--- what `nutation_of` gave, of the day as it came
-says : (c : tie.After-nutation-of) → c .nutation-of .result ≡ nutationOf (c .before .args .day) (c .before .args .micros)
-says c = c .nutation-of .ensures ∙ ap (λ (d : ℤ). nutationOf d (c .before .args .micros)) (toZ-ofZ (c .before .fits .day))
-
-nutation-of-requires : tie.Need-nutation-of-requires
-nutation-of-requires c κs = search needs
-
-enum-told : tie.Need-enum-told
-enum-told c = search needs
-
-enum-known-n : tie.Need-enum-known-n
-enum-known-n c = search needs
-
-returns : tie.Need-returns
-returns c = ap nutationRefusalOf (sym (c .enum-told .given .1) ∙ says (c .before .before))
-
-returns-2 : tie.Need-returns-2
-returns-2 c = let k = c .before in ap nutationRefusalOf (sym (k .n .given .1) ∙ says (k .before .before))
-
 pub enfys-nutation-refusal-spec : {M : Type 1} → statement M
 enfys-nutation-refusal-spec =
-    tie.close (tie.spec nutation-of-requires enum-told enum-known-n returns returns-2)
+    tie.close
+    (tie.spec (λ c κs. tt) (λ c. search needs) (λ c. search needs)
+    (λ c. let s = c .before .before in rw (← toZ-ofZ (s .before .fits .day), ← s .nutation-of .ensures, c .enum-told .given .1) (search needs))
+    (λ c. let v = c .before in let s = v .before .before in rw (← toZ-ofZ (s .before .fits .day), ← s .nutation-of .ensures, v .n .given .1) (search needs)))
