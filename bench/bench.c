@@ -1,6 +1,7 @@
 /*
- * Times the library's calls beside plain C (tests/model*.c, with libm's sine and cosine) in one
- * process on the same inputs. It measures and compares nothing else: it is not a test.
+ * Times the library's calls beside plain C (tests/model*.c, with libm's sine and cosine), and beside
+ * ERFA where it is installed (WITH_ERFA), in one process on the same inputs. A row whose ratio is above
+ * the most that is allowed for it is marked, and the status is 1.
  */
 #define _POSIX_C_SOURCE 199309L
 #include "../include/enfysgar.h"
@@ -8,6 +9,9 @@
 
 #include <stdio.h>
 #include <time.h>
+#ifdef WITH_ERFA
+#include <erfa.h>
+#endif
 
 #define INPUTS 1024
 #define ROUNDS 1000
@@ -21,8 +25,27 @@ static uint8_t run[96 * 30];
 /* What the timed calls give is added up here, so that no call can be left out. */
 static volatile double sink;
 
+/* Rows whose ratio is above the most that is allowed. */
+static int above;
+
 /* What is timed: one call, or one group of calls, for input i. It returns a number that depends on the answers. */
 typedef double work(int i);
+
+static double constituent(int i)
+{
+    const int64_t *k = multiplier[i];
+    double frequency = 0.0, phase = 0.0;
+
+    enfys_tide(at[i].day, at[i].micros, k[0], k[1], k[2], k[3], k[4], k[5], &frequency, &phase);
+    return frequency + phase;
+}
+
+static double constituent_plain(int i)
+{
+    if (model_tide_refusal(at[i], multiplier[i]))
+        return 0.0;
+    return model_frequency(at[i], multiplier[i]) + model_phase(at[i], multiplier[i]);
+}
 
 static double phase(int i)
 {
@@ -38,9 +61,10 @@ static double phase_plain(int i)
 
 static double corrections(int i)
 {
-    double refusal = enfys_run_write(at[i].day, at[i].micros, 1, 1, run, 30);
+    int32_t ut1 = 0, lod = 0, rate = 0;
 
-    return refusal + enfys_record_ut1(run, 30) + enfys_record_lod(run, 30) + enfys_record_rate(run, 30);
+    enfys_zonal(at[i].day, at[i].micros, &ut1, &lod, &rate);
+    return (double)ut1 + lod + rate;
 }
 
 static double ut1(int i)
@@ -58,7 +82,11 @@ static double corrections_plain(int i)
 
 static double offsets(int i)
 {
-    return (double)(enfys_nutation_x(at[i].day, at[i].micros) + enfys_nutation_y(at[i].day, at[i].micros));
+    int64_t x = 0, y = 0;
+    uint64_t uncertainty = 0;
+
+    enfys_nutation(at[i].day, at[i].micros, &x, &y, &uncertainty);
+    return (double)x + (double)y;
 }
 
 static double offsets_plain(int i)
@@ -71,10 +99,27 @@ static double offsets_plain(int i)
 
 static double date(int i)
 {
-    int64_t day = at[i].day;
+    uint64_t year = 0, month = 0, day = 0;
 
-    return (double)(enfys_day_to_year(day) + enfys_day_to_month(day) + enfys_day_to_day_of_month(day));
+    enfys_date_of_day(at[i].day, &year, &month, &day);
+    return (double)(year + month + day);
 }
+
+static double year(int i)
+{
+    return (double)enfys_day_to_year(at[i].day);
+}
+
+#ifdef WITH_ERFA
+static double date_erfa(int i)
+{
+    int year = 0, month = 0, day = 0;
+    double fraction = 0.0;
+
+    eraJd2cal(2400000.5, (double)at[i].day, &year, &month, &day, &fraction);
+    return (double)(year + month + day);
+}
+#endif
 
 static double written(int i)
 {
@@ -90,10 +135,12 @@ static double written_plain(int i)
 
 static double read_back(int i)
 {
-    const uint8_t *b = record[i];
+    int64_t day = 0;
+    uint64_t micros = 0;
+    int32_t ut1 = 0, lod = 0, rate = 0;
+    uint32_t refusal = enfys_record_read(record[i], 30, &day, &micros, &ut1, &lod, &rate);
 
-    return enfys_record_refusal(b, 30) + (double)enfys_record_day(b, 30) + (double)enfys_record_micros(b, 30) +
-           enfys_record_ut1(b, 30) + enfys_record_lod(b, 30) + enfys_record_rate(b, 30);
+    return refusal + (double)day + (double)micros + ut1 + lod + rate;
 }
 
 static double read_back_plain(int i)
@@ -167,20 +214,24 @@ static double time_of(work *w, int batch)
 
 /*
  * The best of many short rounds, the two taking turns, so that both meet the same conditions and
- * what else the machine does matters little.
+ * what else the machine does matters little. `most` is the most that the ratio may be, 0 for any.
  */
-static void row(const char *what, work *ours, work *plain)
+static void row(const char *what, work *ours, work *other, double most)
 {
     double a = 1e300, b = 1e300;
-    int batch = 1 + (int)(300000.0 / (time_of(ours, 16) + time_of(plain, 16)));
+    int batch = 1 + (int)(300000.0 / (time_of(ours, 16) + time_of(other, 16)));
 
     for (int i = 0; i < ROUNDS; i++) {
-        double x = time_of(ours, batch), y = time_of(plain, batch);
+        double x = time_of(ours, batch), y = time_of(other, batch);
 
         a = x < a ? x : a;
         b = y < b ? y : b;
     }
-    printf("%-52s %10.1f %10.1f %8.2f\n", what, a, b, a / b);
+    printf("%-52s %10.1f %10.1f %8.2f", what, a, b, a / b);
+    if (most > 0.0)
+        printf(" %8.2f%s", most, a / b > most ? " ABOVE" : "");
+    printf("\n");
+    above += most > 0.0 && a / b > most;
 }
 
 static uint64_t next(void)
@@ -206,14 +257,22 @@ int main(void)
         if (x.year != y.year || x.month != y.month || x.day != y.day)
             return 1;
     }
-    printf("%-52s %10s %10s %8s\n", "", "ours, ns", "plain, ns", "ratio");
-    row("tidal phase", phase, phase_plain);
-    row("three corrections (run of one record, read)", corrections, corrections_plain);
-    row("UT1 alone, against three sums", ut1, corrections_plain);
-    row("nutation X and Y (two calls)", offsets, offsets_plain);
-    row("day to date (three calls)", date, date_plain);
-    row("record written", written, written_plain);
-    row("record read (six calls), against one reading", read_back, read_back_plain);
-    row("run of 96 records", run_96, run_96_plain);
-    return 0;
+    printf("%-52s %10s %10s %8s %8s\n", "", "ours, ns", "other, ns", "ratio", "at most");
+    row("three corrections", corrections, corrections_plain, 0.45);
+    row("both offsets and the uncertainty, against two", offsets, offsets_plain, 1.9);
+    row("day to date", date, date_plain, 1.1);
+    row("record read", read_back, read_back_plain, 0.8);
+#ifdef WITH_ERFA
+    row("day to date, against ERFA's eraJd2cal", date, date_erfa, 0.6);
+#endif
+    row("frequency and phase", constituent, constituent_plain, 0.0);
+    row("record written", written, written_plain, 0.0);
+    row("run of 96 records", run_96, run_96_plain, 0.0);
+    row("phase alone", phase, phase_plain, 0.0);
+    row("UT1 alone, against three sums", ut1, corrections_plain, 0.0);
+    row("year alone, against a date", year, date_plain, 0.0);
+#ifndef WITH_ERFA
+    printf("ERFA is not installed (Debian: liberfa-dev): nothing was compared with it\n");
+#endif
+    return above != 0;
 }

@@ -251,6 +251,16 @@ uint32_t enfys_record_refusal(const uint8_t *bytes, size_t length);
 uint32_t enfys_run_write(int64_t day, uint64_t micros, uint64_t count,
                          uint64_t step_micros, uint8_t *buffer, size_t length);
 
+uint32_t enfys_day_of_date(uint64_t year, uint64_t month, uint64_t day_of_month, int64_t *day);
+uint32_t enfys_date_of_day(int64_t day, uint64_t *year, uint64_t *month, uint64_t *day_of_month);
+uint32_t enfys_instant(uint64_t year, uint64_t month, uint64_t day_of_month, uint64_t hour, uint64_t minute, uint64_t second, uint64_t microsecond, int64_t *day, uint64_t *micros);
+uint32_t enfys_split(int64_t day, uint64_t micros, int64_t *day_word, uint64_t *time_word);
+uint32_t enfys_join(int64_t day_word, uint64_t time_word, int64_t *day, uint64_t *micros);
+uint32_t enfys_tide(int64_t day, uint64_t micros, int64_t k1, int64_t k2, int64_t k3, int64_t k4, int64_t k5, int64_t k6, double *frequency, double *phase);
+uint32_t enfys_zonal(int64_t day, uint64_t micros, int32_t *ut1, int32_t *lod, int32_t *rate);
+uint32_t enfys_nutation(int64_t day, uint64_t micros, int64_t *x, int64_t *y, uint64_t *uncertainty);
+uint32_t enfys_record_read(const uint8_t *bytes, size_t length, int64_t *day, uint64_t *micros, int32_t *ut1, int32_t *lod, int32_t *rate);
+
 #ifdef __cplusplus
 }
 #endif

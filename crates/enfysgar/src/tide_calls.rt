@@ -62,7 +62,10 @@ pub extern "C" fn enfys_tide_frequency(
         k5,
         k6,
     };
-    tide::frequency(tide::tide_of(day, micros, k))
+    match tide::tide_of(day, micros, k) {
+        TideAnswer::Tide(x) => x.frequency,
+        TideAnswer::NoTide(_) => 0.0,
+    }
 }
 
 // The phase, in degrees.
@@ -87,7 +90,10 @@ pub extern "C" fn enfys_tide_phase(
         k5,
         k6,
     };
-    tide::phase(tide::tide_of(day, micros, k))
+    match tide::tide_of(day, micros, k) {
+        TideAnswer::Tide(x) => x.phase,
+        TideAnswer::NoTide(_) => 0.0,
+    }
 }
 
 // The refusal number of an instant and six multipliers.
@@ -112,5 +118,8 @@ pub extern "C" fn enfys_tide_refusal(
         k5,
         k6,
     };
-    tide::refusal(tide::tide_of(day, micros, k))
+    match tide::tide_of(day, micros, k) {
+        TideAnswer::Tide(_) => 0,
+        TideAnswer::NoTide(n) => n,
+    }
 }

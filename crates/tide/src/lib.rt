@@ -9,7 +9,7 @@ ghost use Rattle.instants.specs.Limits.{dayMicros};
 ghost use Rattle.instants.specs.Instants.{IsAccepted};
 ghost use Rattle.tide.specs.Binary64.{_⊗_, whole};
 ghost use Rattle.tide.specs.Delaunay.{horner};
-ghost use Rattle.tide.specs.Tidal.{dayFraction, centuries, argumentsOf, argumentsAt, sumOfProducts, settled, reduced, inRange, allInRange, tideOf, frequencyOf, phaseOf, tideRefusalOf};
+ghost use Rattle.tide.specs.Tidal.{dayFraction, centuries, argumentsOf, argumentsAt, sumOfProducts, settled, reduced, inRange, allInRange, tideOf};
 ghost use Rattle.tide.specs.Inner.{answerOf};
 
 // The six multipliers of a constituent.
@@ -235,35 +235,5 @@ pub fn tide_of(day: i64, micros: u64, k: Doodson) -> TideAnswer
     match instants::accept(day, micros) {
         Acceptance::Accepted(_) => answer_from(arguments_at(day, micros), k),
         Acceptance::NotAccepted(n) => TideAnswer::NoTide(n),
-    }
-}
-
-// The frequency of an answer, +0 on a refusal.
-pub fn frequency(a: TideAnswer) -> f64
-    ensures { λ r. ⌜ r ≡ frequencyOf a ⌝ }
-{
-    match a {
-        TideAnswer::Tide(x) => x.frequency,
-        TideAnswer::NoTide(_) => 0.0,
-    }
-}
-
-// The phase of an answer, +0 on a refusal.
-pub fn phase(a: TideAnswer) -> f64
-    ensures { λ r. ⌜ r ≡ phaseOf a ⌝ }
-{
-    match a {
-        TideAnswer::Tide(x) => x.phase,
-        TideAnswer::NoTide(_) => 0.0,
-    }
-}
-
-// The refusal number of an answer, 0 for none.
-pub fn refusal(a: TideAnswer) -> u32
-    ensures { λ r. ⌜ r ≡ tideRefusalOf a ⌝ }
-{
-    match a {
-        TideAnswer::Tide(_) => 0,
-        TideAnswer::NoTide(n) => n,
     }
 }

@@ -3,6 +3,7 @@
 // implementation of docs/RULES.md.
 use libc::STDOUT_FILENO;
 use tide::Doodson;
+use tide::TideAnswer;
 ghost use mathlib.Core.Path.{_≡_};
 ghost use mathlib.Core.Bool.{cond};
 ghost use lib.Ieee as Ieee;
@@ -19,7 +20,17 @@ fn bits(x: f64) -> u64
     }
 }
 
-// A line for an instant and six multipliers.
+// A line: a refusal number, and the bits of a frequency and of a phase.
+fn line(refusal: u32, frequency: f64, phase: f64) {
+    io::print_decimal(STDOUT_FILENO, refusal as u64);
+    io::write_all(STDOUT_FILENO, b" ");
+    io::print_hex(STDOUT_FILENO, bits(frequency), 16);
+    io::write_all(STDOUT_FILENO, b" ");
+    io::print_hex(STDOUT_FILENO, bits(phase), 16);
+    io::write_all(STDOUT_FILENO, b"\n");
+}
+
+// The line of an instant and six multipliers.
 fn show(day: i64, micros: u64, k1: i64, k2: i64, k3: i64, k4: i64, k5: i64, k6: i64) {
     let k = Doodson {
         k1,
@@ -29,13 +40,10 @@ fn show(day: i64, micros: u64, k1: i64, k2: i64, k3: i64, k4: i64, k5: i64, k6: 
         k5,
         k6,
     };
-    let a = tide::tide_of(day, micros, k);
-    io::print_decimal(STDOUT_FILENO, tide::refusal(a) as u64);
-    io::write_all(STDOUT_FILENO, b" ");
-    io::print_hex(STDOUT_FILENO, bits(tide::frequency(a)), 16);
-    io::write_all(STDOUT_FILENO, b" ");
-    io::print_hex(STDOUT_FILENO, bits(tide::phase(a)), 16);
-    io::write_all(STDOUT_FILENO, b"\n");
+    match tide::tide_of(day, micros, k) {
+        TideAnswer::Tide(x) => line(0, x.frequency, x.phase),
+        TideAnswer::NoTide(n) => line(n, 0.0, 0.0),
+    }
 }
 
 // The cases, in groups.
