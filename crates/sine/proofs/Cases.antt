@@ -1,14 +1,15 @@
--- The cases of our sine, as the code goes by them: reflected in the quarter turn, lowered by a half turn, and the sign.
--- Assumes nothing.
+-- The cases of our sine, as the code goes by them: the angle reduced to a quarter turn, by the quarter it is in, and the sign; and that a quarter turn
+-- more is in the next quarter, reduced to what is left, so that one reduction serves the sine and the cosine. Assumes nothing.
 use mathlib.Core.Path.{_≡_, refl, sym, _∙_, ap}
 use mathlib.Core.Bool.{Bool, true, false, cond}
-use Prim.Native.Nat.{ℕ, _*_, _-_, _/_, _^_, _≤_, _<_}
+use Prim.Native.Nat.{ℕ, _+_, _*_, _-_, _/_, _%_, _^_, _≤_, _<_}
+use native.Mathlib.Decide.{decLe}
 use native.Mathlib.Omega.{arith}
-use lib.Dec.{T, leb, le→leb, leb→le, nleb→lt}
+use lib.Dec.{T, leb, le→leb, leb→le}
 use lib.IntN.{ℤ, pos, negℤ}
-use Rattle.algebra.proofs.Tests.{by-test}
 use Rattle.sine.specs.Exact.{halfTurn, wholeTurn}
 use Rattle.sine.specs.Ours.{sineQuarter, quarterTurn, ourSine}
+use Rattle.sine.specs.Inner.{Reduced, first, second, third, fourth}
 
 -- ---- a test that is known
 
@@ -42,15 +43,48 @@ whole-high a h = sym (no-is (leb (2 * a) (2 ^ 41)) (halfTurn quarterTurn (2 ^ 41
     over : 2 * a ≤ 2 ^ 41 → ⊥
     over k = omega arith
 
--- ---- the sine as the code makes it: the angle l less a half turn where it is above one, the sine v up to a half turn, and its sign
+-- ---- the sine as the code makes it: the angle a reduced to r, the sine v there, and its sign
 
-pub whole-by : (a l v : ℕ) (s : ℤ) → (a ≤ 2 ^ 40 → l ≡ a) → (2 ^ 40 < a → l ≡ a - 2 ^ 40) → pos v ≡ halfTurn quarterTurn (2 ^ 41) l
-    → (a ≤ 2 ^ 40 → s ≡ pos v) → (2 ^ 40 < a → s ≡ negℤ (pos v)) → s ≡ ourSine a
-whole-by a l v s p q e f g =
-    by-test (leb a (2 ^ 40)) (λ t. low (leb→le a (2 ^ 40) t)) (λ t. high (nleb→lt a (2 ^ 40) t))
+module _ (a r v : ℕ) (s : ℤ) (e : v ≡ sineQuarter (r / 2 ^ 9)) (up : a ≤ 2 ^ 40 → s ≡ pos v) (down : 2 ^ 40 < a → s ≡ negℤ (pos v)) where
+  -- v at another name of the reduced angle
+  at : {q : ℕ} → r ≡ q → v ≡ sineQuarter (q / 2 ^ 9)
+  at p = e ∙ ap (λ (n : ℕ). sineQuarter (n / 2 ^ 9)) p
+
+  pub sine-by : Reduced a r → s ≡ ourSine a
+  sine-by (first h p) = up (omega arith) ∙ half-low a v h (at p) ∙ whole-low a (omega arith)
+  sine-by (second h k p) = up k ∙ half-high a v h (at p) ∙ whole-low a k
+  sine-by (third h k p) = down h ∙ ap negℤ (half-low (a - 2 ^ 40) v (omega arith) (at p)) ∙ whole-high a h
+  sine-by (fourth h k p) = let l : 2 ^ 40 < a = omega arith in down l ∙ ap negℤ (half-high (a - 2 ^ 40) v (omega arith) (at (p ∙ omega arith))) ∙ whole-high a l
+
+-- ---- the angle reduced: what is above a whole number of half turns, or what is left of the half turn
+
+pub reduced-low : (a : ℕ) → a < 2 ^ 41 → a % 2 ^ 40 ≤ 2 ^ 39 → Reduced a (a % 2 ^ 40)
+reduced-low a l h = by (decLe (2 ^ 40) a) (decLe a (2 ^ 40))
   where
-    low : a ≤ 2 ^ 40 → s ≡ ourSine a
-    low h = f h ∙ e ∙ ap (halfTurn quarterTurn (2 ^ 41)) (p h) ∙ whole-low a h
+    by : Dec (2 ^ 40 ≤ a) → Dec (a ≤ 2 ^ 40) → Reduced a (a % 2 ^ 40)
+    by (no p) q = first (omega (arith, p)) (omega (arith, p))
+    by (yes p) (yes q) = second (omega arith) q (omega arith)
+    by (yes p) (no q) = third (omega (arith, q)) (omega arith) (omega (arith, q))
 
-    high : 2 ^ 40 < a → s ≡ ourSine a
-    high h = g h ∙ ap negℤ (e ∙ ap (halfTurn quarterTurn (2 ^ 41)) (q h)) ∙ whole-high a h
+pub reduced-high : (a : ℕ) → a < 2 ^ 41 → 2 ^ 39 < a % 2 ^ 40 → Reduced a (2 ^ 40 - a % 2 ^ 40)
+reduced-high a l h = by (decLe (2 ^ 40) a)
+  where
+    by : Dec (2 ^ 40 ≤ a) → Reduced a (2 ^ 40 - a % 2 ^ 40)
+    by (no p) = second (omega (arith, p)) (omega (arith, p)) (omega (arith, p))
+    by (yes p) = fourth (omega arith) (omega arith) (omega arith)
+
+-- ---- a quarter turn more is in the next quarter, and reduced to what is left of the quarter turn
+
+pub quarter-more : (a r : ℕ) → a < 2 ^ 41 → Reduced a r → Reduced ((a + 2 ^ 39) % 2 ^ 41) (2 ^ 39 - r)
+quarter-more a r l (first h p) = by (decLe 1 a)
+  where
+    by : Dec (1 ≤ a) → Reduced ((a + 2 ^ 39) % 2 ^ 41) (2 ^ 39 - r)
+    by (yes q) = second (omega arith) (omega arith) (omega arith)
+    by (no q) = first (omega (arith, q)) (omega (arith, q))
+quarter-more a r l (second h k p) = third (omega arith) (omega arith) (omega arith)
+quarter-more a r l (third h k p) = by (decLe (3 * 2 ^ 39) a)
+  where
+    by : Dec (3 * 2 ^ 39 ≤ a) → Reduced ((a + 2 ^ 39) % 2 ^ 41) (2 ^ 39 - r)
+    by (yes q) = first (omega arith) (omega arith)
+    by (no q) = fourth (omega (arith, q)) (omega arith) (omega (arith, q))
+quarter-more a r l (fourth h k p) = first (omega arith) (omega arith)

@@ -3,8 +3,8 @@
 ghost use mathlib.Core.Path.{_≡_};
 ghost use Prim.Native.Nat.{_+_, _-_, _*_, _/_, _%_, _^_, _≤_, _<_};
 ghost use lib.IntN.{pos, negℤ};
-ghost use Rattle.sine.specs.Exact.{halfTurn};
-ghost use Rattle.sine.specs.Ours.{sineQuarter, quarterTurn, ourSine, ourCosine};
+ghost use Rattle.sine.specs.Ours.{sineQuarter, ourSine, ourCosine};
+ghost use Rattle.sine.specs.Inner.{Reduced};
 
 // A turn, in units of 2^-41 turn.
 pub const TURN: u64 = 1 << 41;
@@ -74,32 +74,15 @@ fn sine_quarter(q: u64) -> u64
     scaled(q, p0)
 }
 
-// An angle up to a half turn, reflected in the quarter turn. The functions that choose are small, so that they compile to no branch.
-fn reflected(a: u64) -> u64
-    requires { ⌜ a ≤ 2 ^ 40 ⌝ }
-    ensures value { λ r. ⌜ quarterTurn r ≡ halfTurn quarterTurn (2 ^ 41) a ⌝ }
+// An angle reduced to a quarter turn, where the sine is the same but for its sign. The functions that choose are small, so that they compile to no
+// branch.
+fn reduced(a: u64) -> u64
+    requires { ⌜ a < 2 ^ 41 ⌝ }
+    ensures quarters { λ r. ⌜ Reduced a r ⌝ }
     ensures most { λ r. ⌜ r ≤ 2 ^ 39 ⌝ }
 {
-    if a <= QUARTER { a } else { HALF - a }
-}
-
-// The sine up to a half turn.
-fn sine_half(a: u64) -> u64
-    requires { ⌜ a ≤ 2 ^ 40 ⌝ }
-    ensures value { λ r. ⌜ pos r ≡ halfTurn quarterTurn (2 ^ 41) a ⌝ }
-    ensures below { λ r. ⌜ r < 2 ^ 32 ⌝ }
-{
-    sine_quarter(reflected(a) / PART)
-}
-
-// An angle less a half turn, if it is above one.
-fn lowered(a: u64) -> u64
-    requires { ⌜ a < 2 ^ 41 ⌝ }
-    ensures first { λ r. ⌜ (a ≤ 2 ^ 40 → r ≡ a) ⌝ }
-    ensures second { λ r. ⌜ (2 ^ 40 < a → r ≡ a - 2 ^ 40) ⌝ }
-    ensures most { λ r. ⌜ r ≤ 2 ^ 40 ⌝ }
-{
-    if a <= HALF { a } else { a - HALF }
+    let h = a % HALF;
+    if h <= QUARTER { h } else { HALF - h }
 }
 
 // The number v, or minus v for an angle above a half turn.
@@ -116,12 +99,16 @@ pub fn sine(b: u64) -> i64
     ensures { λ r. ⌜ r ≡ ourSine (b % 2 ^ 41) ⌝ }
 {
     let a = b % TURN;
-    signed(a, sine_half(lowered(a)))
+    signed(a, sine_quarter(reduced(a) / PART))
 }
 
-// The cosine of b: the sine of a quarter turn more.
+// The cosine of b: the sine of a quarter turn more, which is reduced to what is left of the quarter turn.
 pub fn cosine(b: u64) -> i64
     ensures { λ r. ⌜ r ≡ ourCosine (b % 2 ^ 41) ⌝ }
 {
-    sine(b % TURN + QUARTER)
+    let a = b % TURN;
+    signed(
+        (a + QUARTER) % TURN,
+        sine_quarter((QUARTER - reduced(a)) / PART),
+    )
 }
