@@ -10,11 +10,11 @@ use mir.Syntax.{w64}
 use mir.Val.{Fits}
 use native.Mathlib.Omega.{arith}
 use Rattle.calendar.specs.Dates.{daysOfYears, daysBefore, dateIndex, dateAfter, date}
-use Rattle.calendar.specs.Inner.{leapDay, monthAt, AtMost3, IsYearDay}
+use Rattle.calendar.specs.Inner.{leapDay, twelfthsAt, IsYearDay}
 use Rattle.calendar.specs.declared.YearDay.{YearDay}
 use Rattle.calendar.proofs.Dates.{unique, after}
 use Rattle.calendar.proofs.Laws.{Leap, not4, not100, not400, by400, leap-cases, years-counted}
-use Rattle.calendar.proofs.Months.{Has, month-found}
+use Rattle.calendar.proofs.Months.{month-found}
 
 module _ (a b c d : ℕ) (hb : b ≤ 3) (hc : c ≤ 24) (hd : d ≤ 3) (k : ℕ) (hk : k + 399 ≡ 400 * a + 100 * b + 4 * c + d) where
   q4 : (k + 3) / 4 + 99 ≡ 100 * a + 25 * b + c
@@ -57,73 +57,94 @@ last-leap a b c hb hc h l (not400 p q) =
     absurd (q (omega arith))
 last-leap a b c hb hc h l (by400 p) = refl
 
--- A day's place, from the quotients and remainders.
-module _ (n a ra b rb c rc d e : ℕ) (t : n + 145731 ≡ 146097 * a + ra) (la : ra < 146097) (hb : AtMost3 (ra / 36524) b) (tb : ra ≡ 36524 * b + rb) (tc : rb ≡ 1461 * c + rc) (lc : rc < 1461) (hd : AtMost3 (rc / 365) d) (td : rc ≡ 365 * d + e) where
-  in-century : (rb < 36524) ⊎ ((b ≡ 3) × (rb < 36525))
-  in-century = ⊎-elim (λ p. inl (omega (arith, hb .low))) (λ p. inr (p, omega arith)) (hb .either)
+-- A day's place: a groups of 400 years before it and ra days, of these b centuries and s quarters of a day, of the whole days in s y years and r
+-- quarters. The three quarters that were added make the last century and the last year of four the longer ones.
+module _ (n a ra b s y r : ℕ) (t : n + 145731 ≡ 146097 * a + ra) (la : ra < 146097) (tb : 4 * ra + 3 ≡ 146097 * b + s) (ls : s < 146097)
+    (ty : 4 * (s / 4) + 3 ≡ 1461 * y + r) (lr : r < 1461) where
+  -- the fours of years, the years of the last four, and the day of the year
+  abbrev c : ℕ
+  c = y / 4
+
+  abbrev d : ℕ
+  d = y % 4
+
+  abbrev e : ℕ
+  e = r / 4
+
+  b-small : b ≤ 3
+  b-small = omega arith
 
   c-small : c ≤ 24
-  c-small = ⊎-elim (λ p. omega arith) (λ p. omega (arith, p .1)) in-century
+  c-small = omega arith
+
+  d-small : d ≤ 3
+  d-small = omega arith
+
+  -- the days of a place
+  century-days : ra ≡ 36524 * b + s / 4
+  century-days = omega (arith, b-small)
+
+  year-days : s / 4 ≡ 1461 * c + 365 * d + e
+  year-days = omega arith
+
+  in-century : (s / 4 < 36524) ⊎ ((b ≡ 3) × (s / 4 < 36525))
+  in-century = by (decLe 36524 (s / 4))
+    where
+      by : Dec (36524 ≤ s / 4) → (s / 4 < 36524) ⊎ ((b ≡ 3) × (s / 4 < 36525))
+      by (yes p) = let q : s ≡ 146096 = omega arith in inr (omega (arith, century-days), omega arith)
+      by (no p) = inl (omega (arith, p))
 
   in-year : (e < 365) ⊎ ((d ≡ 3) × (e < 366))
-  in-year = ⊎-elim (λ p. inl (omega (arith, hd .low))) (λ p. inr (p, omega arith)) (hd .either)
+  in-year = by (decLe 365 e)
+    where
+      by : Dec (365 ≤ e) → (e < 365) ⊎ ((d ≡ 3) × (e < 366))
+      by (yes p) = let q : r ≡ 1460 = omega arith in inr (omega (arith, year-days), omega arith)
+      by (no p) = inl (omega (arith, p))
 
   full : e ≡ 365 → c ≡ 24 → b ≡ 3
-  full p q = ⊎-elim (λ r. absurd (⊎-elim (λ s. omega arith) (λ s. omega (arith, s .0)) in-year)) (λ r. r .0) in-century
+  full p q = ⊎-elim (λ u. absurd (⊎-elim (λ v. omega arith) (λ v. omega (arith, v .0, year-days)) in-year)) (λ u. u .0) in-century
 
   sum : n + 145731 ≡ 146097 * a + 36524 * b + 1461 * c + 365 * d + e
-  sum = omega arith
+  sum = omega (arith, century-days, year-days)
 
   late : 399 ≤ 400 * a + 100 * b + 4 * c + d
   late = by (decLe 1 a)
     where
-      third : 145731 ≤ ra → b ≡ 3
-      third h = ⊎-elim (λ p. omega (arith, hb .small)) (λ p. p .0) in-century
-
       by : Dec (1 ≤ a) → 399 ≤ 400 * a + 100 * b + 4 * c + d
       by (yes p) = omega arith
       by (no p) =
-          let r : 145731 ≤ ra = omega (arith, p) in
-          let x : b ≡ 3 = third r in
-          let y : 24 ≤ c = omega arith in
-          let z : 1095 ≤ rc = omega (arith, c-small) in
-          let w : 3 ≤ d = ⊎-elim (λ q. omega arith) (λ q. omega (arith, q .0)) in-year in
-          omega arith
+          let u : 145731 ≤ ra = omega (arith, p) in
+          let x : b ≡ 3 = omega (arith, b-small) in
+          omega (arith, century-days)
 
   abbrev pub year : ℕ
-  year = 1201 + 400 * a + 100 * b + 4 * c + d
+  year = 1201 + 400 * a + 100 * b + y
 
   pub placed : IsYearDay n (record { year = year; rest = e })
   placed =
       let k : (year - 1600) + 399 ≡ 400 * a + 100 * b + 4 * c + d = omega (arith, late) in
-      let g : daysOfYears (year - 1600) + 145731 ≡ 146097 * a + 36524 * b + 1461 * c + 365 * d = group-days a b c d (hb .small) c-small (hd .small) (year - 1600) k in
+      let g : daysOfYears (year - 1600) + 145731 ≡ 146097 * a + 36524 * b + 1461 * c + 365 * d = group-days a b c d b-small c-small d-small (year - 1600) k in
       record { late = omega (arith, late); counts = omega (arith, g, sum); inside = ⊎-elim (λ q. omega arith) whole in-year }
     where
       full-year : d ≡ 3 → Dec (e ≡ 365) → e < 366 → e < 365 + leapDay year
       full-year q (yes r) h =
           let y : year ≡ 1204 + 400 * a + 100 * b + 4 * c = omega arith in
-          let l : leapDay year ≡ 1 = ap leapDay y ∙ last-leap a b c (hb .small) c-small (full r) _ (leap-cases (1204 + 400 * a + 100 * b + 4 * c)) in
+          let l : leapDay year ≡ 1 = ap leapDay y ∙ last-leap a b c b-small c-small (full r) _ (leap-cases (1204 + 400 * a + 100 * b + 4 * c)) in
           omega arith
       full-year q (no r) h = omega (arith, r)
 
       whole : (d ≡ 3) × (e < 366) → e < 365 + leapDay year
       whole q = full-year (q .0) (ℕ-discrete e 365) (q .1)
 
-pub year-fits : (a b c d : ℕ) → a < 100 → b ≤ 3 → c < 1000 → d ≤ 3 → Fits w64 (1201 + 400 * a + 100 * b + 4 * c + d)
-year-fits a b c d ha hb hc hd = record { fits = omega arith }
-
--- The month of a place, and its date.
-pub month-of : (n : ℕ) (p : YearDay) (l m : ℕ) → IsYearDay n p → l ≡ leapDay (p .year) → m ≡ monthAt l (p .rest) → Has (p .year) (p .rest) m
-month-of n p l m h e f =
-    subst (Has (p .year) (p .rest)) (sym (f ∙ ap (λ (k : ℕ). monthAt k (p .rest)) e)) (month-found (p .year) (p .rest) (h .inside))
-
-index-by : (y m d n e : ℕ) → daysBefore y m ≤ e → d ≡ e - daysBefore y m + 1 → daysOfYears (y - 1600) + e ≡ n → dateIndex (date y m d) ≡ n
+-- The date of a place.
+index-by : (y m d n e : ℕ) → 1 ≤ d → daysBefore y m + d ≡ e + 1 → daysOfYears (y - 1600) + e ≡ n → dateIndex (date y m d) ≡ n
 unfolding dateIndex
 index-by y m d n e h q r = omega arith
 
-pub date-of : (n : ℕ) (p : YearDay) (m b : ℕ) → IsYearDay n p → Has (p .year) (p .rest) m → b ≡ daysBefore (p .year) m → date (p .year) m (p .rest - b + 1) ≡ dateAfter n
-date-of n p m b h k e =
-    unique (date (p .year) m (p .rest - b + 1)) (dateAfter n)
-    (record { late = h .late; one = k .one; twelve = k .twelve; first = omega arith; last = omega (arith, k .end, k .start, e) })
+pub date-of : (n : ℕ) (p : YearDay) (w : ℕ) → IsYearDay n p → w ≡ twelfthsAt (leapDay (p .year)) (p .rest) → date (p .year) (w / 367) (w % 367 / 12 + 1) ≡ dateAfter n
+date-of n p w h e =
+    let k = month-found (p .year) (p .rest) w (h .inside) e in
+    unique (date (p .year) (w / 367) (w % 367 / 12 + 1)) (dateAfter n)
+    (record { late = h .late; one = k .one; twelve = k .twelve; first = k .first; last = k .last })
     (after n .valid)
-    (index-by (p .year) m (p .rest - b + 1) n (p .rest) (k .start) (omega (arith, e)) (h .counts) ∙ sym (after n .index))
+    (index-by (p .year) (w / 367) (w % 367 / 12 + 1) n (p .rest) (k .first) (k .counts) (h .counts) ∙ sym (after n .index))

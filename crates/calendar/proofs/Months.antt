@@ -1,6 +1,6 @@
 -- What holds of a year's months. There are two kinds of year and twelve months, so each rule is a test that antt computes for every month of both
 -- kinds (for every day of both, where the month of a day is found); the laws below the tests say what they mean of a year. Assumes nothing.
-use Prim.Native.Nat.{ℕ, zero, suc, _+_, _-_, _<_, _≤_}
+use Prim.Native.Nat.{ℕ, zero, suc, _+_, _-_, _/_, _%_, _<_, _≤_}
 use mathlib.Core.Path.{_≡_, refl}
 use mathlib.Core.Bool.{Bool, true, false, cond, _&&_, _||_}
 use mathlib.Core.List.{List, [], _∷_}
@@ -10,7 +10,7 @@ use lib.ListN.{take, getD}
 use mathlib.Core.Logic.{⊎-elim}
 use mir.Facts.{and-yes, or-yes}
 use Rattle.calendar.specs.Dates.{leapYear, monthLengths, sum, monthLength, daysBefore}
-use Rattle.calendar.specs.Inner.{leapDay, monthAt}
+use Rattle.calendar.specs.Inner.{leapDay, twelfthsAt}
 use Rattle.calendar.proofs.Below.{allBelow, below}
 
 -- of a leap year or another: its extra day, the days before a month, a month's length
@@ -54,9 +54,13 @@ short b i = ltb (len b (suc i)) 32
 apart : Bool → ℕ → ℕ → Bool
 apart b i j = leb j i || leb (before b (suc i) + len b (suc i)) (before b (suc j))
 
--- the month of a day e
-found : Bool → ℕ → ℕ → Bool
-found b e m = leb 1 m && (leb m 12 && (leb (before b m) e && ltb e (before b m + len b m)))
+-- the month of a day e, and the day of that month
+found : Bool → ℕ → (m d : ℕ) → Bool
+found b e m d = leb 1 m && (leb m 12 && (leb 1 d && (leb d (len b m) && eqb (before b m + d) (e + 1))))
+
+-- by arithmetic
+foundAt : Bool → ℕ → Bool
+foundAt b e = let w = twelfthsAt (day b) e in found b e (w / 367) (w % 367 / 12 + 1)
 
 -- f at every place of both kinds of year
 both : (Bool → ℕ → Bool) → ℕ → Type 0
@@ -97,8 +101,8 @@ unfolding apart sum monthLengths
 all-apart true = tt
 all-apart false = tt
 
-all-found : (b : Bool) → T (allBelow (λ e. found b e (monthAt (day b) e)) (365 + day b))
-unfolding found sum monthLengths
+all-found : (b : Bool) → T (allBelow (foundAt b) (365 + day b))
+unfolding foundAt found sum monthLengths
 all-found true = tt
 all-found false = tt
 
@@ -163,21 +167,23 @@ month-apart y (suc i) (suc j) h p q =
     apart-of (leapYear y) i j (omega arith)
     (below (apart (leapYear y) i) 12 (below (λ i. allBelow (apart (leapYear y) i) 12) 12 (all-apart (leapYear y)) i (omega arith)) j q)
 
--- The month m has the day e of the year y.
-pub record Has (y e m : ℕ) : Type 0 where
+-- The day e of the year y, counted from 0, is the day d of the month m.
+pub record Has (y e m d : ℕ) : Type 0 where
   pub one : 1 ≤ m
   pub twelve : m ≤ 12
-  pub start : daysBefore y m ≤ e
-  pub end : e < daysBefore y m + monthLength y m
+  pub first : 1 ≤ d
+  pub last : d ≤ monthLength y m
+  pub counts : daysBefore y m + d ≡ e + 1
 
-has : (y e m : ℕ) → T (found (leapYear y) e m) → Has y e m
+has : (y e m d : ℕ) → T (found (leapYear y) e m d) → Has y e m d
 unfolding found daysBefore monthLength
-has y e m t =
+has y e m d t =
     let a : _ × _ = and-yes (leb 1 m) _ t in
     let b : _ × _ = and-yes (leb m 12) _ (a .1) in
-    let d : _ × _ = and-yes (leb (before (leapYear y) m) e) _ (b .1) in
-    record { one = leb→le _ _ (a .0); twelve = leb→le _ _ (b .0); start = leb→le _ _ (d .0); end = ltb→lt _ _ (d .1) }
+    let f : _ × _ = and-yes (leb 1 d) _ (b .1) in
+    let l : _ × _ = and-yes (leb d (len (leapYear y) m)) _ (f .1) in
+    record { one = leb→le _ _ (a .0); twelve = leb→le _ _ (b .0); first = leb→le _ _ (f .0); last = leb→le _ _ (l .0); counts = eqb→eq _ _ (l .1) }
 
-pub month-found : (y e : ℕ) → e < 365 + leapDay y → Has y e (monthAt (leapDay y) e)
-unfolding leapDay
-month-found y e h = has y e _ (below (λ e. found (leapYear y) e (monthAt (day (leapYear y)) e)) (365 + day (leapYear y)) (all-found (leapYear y)) e h)
+pub month-found : (y e w : ℕ) → e < 365 + leapDay y → w ≡ twelfthsAt (leapDay y) e → Has y e (w / 367) (w % 367 / 12 + 1)
+unfolding leapDay foundAt
+month-found y e w h p = rw p (has y e _ _ (below (foundAt (leapYear y)) (365 + day (leapYear y)) (all-found (leapYear y)) e h))

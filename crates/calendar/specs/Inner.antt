@@ -1,8 +1,7 @@
 -- What only the contracts of the code's own functions cite.
-use Prim.Native.Nat.{ℕ, _+_, _-_, _*_, _/_, _≤_, _<_}
+use Prim.Native.Nat.{ℕ, _+_, _-_, _*_, _≤_, _<_}
 use mathlib.Core.Path.{_≡_}
 use mathlib.Core.Bool.{cond}
-use mathlib.Core.Logic.{_⊎_}
 use lib.Dec.{ltb}
 use lib.IntN.{ℤ}
 use Rattle.instants.specs.Refusals.{refusedOr}
@@ -22,15 +21,9 @@ unfoldable pub timeOf : ℤ → (hour minute second microsecond : ℕ) → Insta
 timeOf d hour minute second microsecond =
     refusedOr NoInstant (timeCases hour minute second microsecond) (AtInstant (instant d (microsOfTime hour minute second microsecond)))
 
--- the month of the day e of a year, counted from 0, by arithmetic
-abbrev pub monthAt : ℕ → ℕ → ℕ
-monthAt leap e = cond (ltb e (59 + leap)) ((12 * e + 373) / 367) ((12 * (e + 2 - leap) + 373) / 367)
-
--- the lesser of x and 3
-pub record AtMost3 (x r : ℕ) : Type 0 where
-  pub small : r ≤ 3
-  pub low : r ≤ x
-  pub either : (x ≤ r) ⊎ (r ≡ 3)
+-- where the day e of a year is among its months, counted from 0, in twelfths of a day: 367 of them to a month, with thirty days for February
+abbrev pub twelfthsAt : ℕ → ℕ → ℕ
+twelfthsAt leap e = cond (ltb e (59 + leap)) (12 * e + 373) (12 * (e + 2 - leap) + 373)
 
 -- p is the day n days after 1600-01-01
 pub record IsYearDay (n : ℕ) (p : YearDay) : Type 0 where

@@ -6,7 +6,7 @@ ghost use Prim.Native.Nat.{_+_, _≤_, _<_};
 ghost use Rattle.instants.specs.Inner.{indexLimit};
 ghost use Rattle.calendar.specs.Dates.{monthLength, daysOfYears, daysBefore, dateAfter, dayOf, dateOf};
 ghost use Rattle.calendar.specs.Times.{instantOf};
-ghost use Rattle.calendar.specs.Inner.{leapDay, timeOf, monthAt, AtMost3, IsYearDay};
+ghost use Rattle.calendar.specs.Inner.{leapDay, timeOf, twelfthsAt, IsYearDay};
 
 // The years of a date.
 const FIRST_YEAR: u64 = 1900;
@@ -16,14 +16,10 @@ const LAST_YEAR: u64 = 2100;
 // The microseconds of a second.
 pub const SECOND_MICROS: u64 = 1000000;
 
-// The days of 400, 100 and 4 years and of one, where a leap year comes last in its group of four and is left out at the end of a century.
+// The days of 400 years, and of four that end in a leap year.
 const DAYS_400: u64 = 146097;
 
-const DAYS_100: u64 = 36524;
-
 const DAYS_4: u64 = 1461;
-
-const DAYS_1: u64 = 365;
 
 // The days from 1201-01-01, where groups of 400 years begin, to 1600-01-01.
 const DAYS_FROM_1201: u64 = 145731;
@@ -70,16 +66,11 @@ fn leap(y: u64) -> u64
     ensures days { λ r. ⌜ r ≡ leapDay y ⌝ }
     ensures most { λ r. ⌜ r ≤ 1 ⌝ }
 {
-    if y % 4 != 0 {
-        return 0;
+    if (y % 4 == 0) & ((y % 100 != 0) | (y % 400 == 0)) {
+        1
+    } else {
+        0
     }
-    if y % 100 != 0 {
-        return 1;
-    }
-    if y % 400 != 0 {
-        return 0;
-    }
-    1
 }
 
 // The days of the k years from 1600 on.
@@ -135,41 +126,31 @@ pub fn day_of(year: u64, month: u64, day: u64) -> DayAnswer
     DayAnswer::Day(instants::day_at_index(years(year - 1600) + before(year, month) + (day - 1)))
 }
 
-// The month of the day e of a year, counted from 0.
-fn month(leap: u64, e: u64) -> u64
+// Where the day e of a year is among its months, counted from 0, in twelfths of a day: a month is 367 of them, since February is taken to have 30 days.
+fn twelfths(leap: u64, e: u64) -> u64
     requires extra { ⌜ leap ≤ 1 ⌝ }
     requires inside { ⌜ e < 365 + leap ⌝ }
-    ensures { λ r. ⌜ r ≡ monthAt leap e ⌝ }
+    ensures { λ r. ⌜ r ≡ twelfthsAt leap e ⌝ }
 {
     if e < 59 + leap {
-        return (12 * e + 373) / 367;
+        return 12 * e + 373;
     }
-    (12 * (e + 2 - leap) + 373) / 367
+    12 * (e + 2 - leap) + 373
 }
 
-// The lesser of x and 3: the last of four centuries has a day more than the others, and the last of four years may have one; on it the quotient would be 4.
-fn capped(x: u64) -> u64
-    ensures { λ r. ⌜ AtMost3 x r ⌝ }
-{
-    if x < 3 { x } else { 3 }
-}
-
-// The year of the day n, and the day of that year: groups of 400, 100 and 4 years, and years, from 1201-01-01 on.
+// The year of the day n, and the day of that year: groups of 400 and of 100 years, and years, from 1201-01-01 on. A century is a quarter of the days of
+// 400 years, and a year a quarter of the days of four, but for the day by which the last of four may be longer. So days are counted in quarters, and three
+// quarters more: then that day is the last one's.
 fn year_day(n: u64) -> YearDay
     requires { ⌜ n < indexLimit ⌝ }
     ensures { λ r. ⌜ IsYearDay n r ⌝ }
 {
     let t = n + DAYS_FROM_1201;
-    let a = t / DAYS_400;
-    let ra = t % DAYS_400;
-    let b = capped(ra / DAYS_100);
-    let rb = ra - b * DAYS_100;
-    let c = rb / DAYS_4;
-    let rc = rb % DAYS_4;
-    let d = capped(rc / DAYS_1);
+    let c = 4 * (t % DAYS_400) + 3;
+    let y = 4 * (c % DAYS_400 / 4) + 3;
     YearDay {
-        year: 1201 + 400 * a + 100 * b + 4 * c + d,
-        rest: rc - d * DAYS_1,
+        year: 1201 + 400 * (t / DAYS_400) + 100 * (c / DAYS_400) + y / DAYS_4,
+        rest: y % DAYS_4 / 4,
     }
 }
 
@@ -179,11 +160,11 @@ fn date_after(n: u64) -> Date
     ensures { λ r. ⌜ r ≡ dateAfter n ⌝ }
 {
     let p = year_day(n);
-    let m = month(leap(p.year), p.rest);
+    let w = twelfths(leap(p.year), p.rest);
     Date {
         year: p.year,
-        month: m,
-        day: p.rest - before(p.year, m) + 1,
+        month: w / 367,
+        day: w % 367 / 12 + 1,
     }
 }
 
