@@ -38,6 +38,14 @@ static const char *text(uint32_t refusal)
     return refusal < sizeof meaning / sizeof *meaning ? meaning[refusal] : "unknown to this program";
 }
 
+/* Says why a call refused. */
+static int refused(uint32_t refusal)
+{
+    if (refusal != ENFYS_OK)
+        printf("  refused %" PRIu32 ": %s\n", refusal, text(refusal));
+    return refusal != ENFYS_OK;
+}
+
 /*
  * The unit's clock, as the daemon sees it: two words that are read one after the other. In this
  * example midnight passes between the first two reads.
@@ -50,9 +58,10 @@ struct words {
 static struct words read_clock(int attempt)
 {
     /* 2007-12-31, four microseconds before midnight, and one microsecond after it. */
-    struct words before = {enfys_split_day_word(54465, 86399999996), enfys_split_time_word(54465, 86399999996)};
-    struct words after = {enfys_split_day_word(54466, 1), enfys_split_time_word(54466, 1)};
+    struct words before = {0, 0}, after = {0, 0};
 
+    enfys_split(54465, 86399999996, &before.day, &before.time);
+    enfys_split(54466, 1, &after.day, &after.time);
     return attempt == 1 ? (struct words){before.day, after.time} : after;
 }
 
@@ -62,56 +71,62 @@ static void show_bytes(const uint8_t *bytes, size_t length)
         printf("%02X%s", bytes[i], i + 1 < length ? " " : "\n");
 }
 
-static void show_instant(int64_t day, uint64_t micros)
+static int show_instant(int64_t day, uint64_t micros)
 {
-    uint64_t seconds = micros / 1000000;
+    uint64_t year, month, day_of_month, seconds = micros / 1000000;
 
+    if (refused(enfys_date_of_day(day, &year, &month, &day_of_month)))
+        return 1;
     printf("  TT %04" PRIu64 "-%02" PRIu64 "-%02" PRIu64 " %02" PRIu64 ":%02" PRIu64 ":%02" PRIu64 ".%06" PRIu64
            " (day %" PRId64 ", microsecond %" PRIu64 ")\n",
-           enfys_day_to_year(day), enfys_day_to_month(day), enfys_day_to_day_of_month(day), seconds / 3600,
-           seconds / 60 % 60, seconds % 60, micros % 1000000, day, micros);
+           year, month, day_of_month, seconds / 3600, seconds / 60 % 60, seconds % 60, micros % 1000000, day, micros);
+    return 0;
+}
+
+/* Writes a record of an instant and its corrections, reads it back, and reads it with a bit changed. */
+static int record_and_read(int64_t day, uint64_t micros, int32_t ut1, int32_t lod, int32_t rate)
+{
+    uint8_t record[ENFYS_RECORD_BYTES], run[ENFYS_RECORD_BYTES];
+    int64_t d; /* what is read */
+    uint64_t m;
+    int32_t u, l, r;
+    uint32_t refusal;
+
+    if (refused(enfys_record_write(day, micros, ut1, lod, rate, record, sizeof record)) ||
+        refused(enfys_run_write(day, micros, 1, 1, run, sizeof run)))
+        return 1;
+    if (memcmp(record, run, sizeof record) != 0) /* a run of one record is the same */
+        return 1;
+    printf("  record ");
+    show_bytes(record, sizeof record);
+    if (refused(enfys_record_read(record, sizeof record, &d, &m, &u, &l, &r)))
+        return 1;
+    printf("  read back:\n  ");
+    if (show_instant(d, m) != 0)
+        return 1;
+    record[20] ^= 0x10;
+    refusal = enfys_record_read(record, sizeof record, &d, &m, &u, &l, &r);
+    printf("  with one bit changed: refused %" PRIu32 ", %s\n", refusal, text(refusal));
+    return 0;
 }
 
 /* Everything the daemon gives for one instant. Any of these calls could refuse it; all would say the same. */
 static int serve(int64_t day, uint64_t micros)
 {
-    uint8_t record[ENFYS_RECORD_BYTES];
-    uint32_t refusal = enfys_tide_refusal(day, micros, 2, 0, 0, 0, 0, 0);
+    double frequency, phase;
+    int32_t ut1, lod, rate;
+    int64_t x, y;
+    uint64_t uncertainty;
 
-    if (refusal != ENFYS_OK) {
-        printf("  refused %" PRIu32 ": %s\n", refusal, text(refusal));
+    if (refused(enfys_tide(day, micros, 2, 0, 0, 0, 0, 0, &frequency, &phase)) ||
+        refused(enfys_zonal(day, micros, &ut1, &lod, &rate)) ||
+        refused(enfys_nutation(day, micros, &x, &y, &uncertainty)))
         return 1;
-    }
-    printf("  M2 phase %.9f degrees, frequency %.12f cycles per day\n", enfys_tide_phase(day, micros, 2, 0, 0, 0, 0, 0),
-           enfys_tide_frequency(day, micros, 2, 0, 0, 0, 0, 0));
-
-    /* All three corrections at the price of one: a run of one record, read back. */
-    refusal = enfys_run_write(day, micros, 1, 1, record, sizeof record);
-    if (refusal != ENFYS_OK)
-        return 1;
-    int32_t ut1 = enfys_record_ut1(record, sizeof record);
-    int32_t lod = enfys_record_lod(record, sizeof record);
-    int32_t rate = enfys_record_rate(record, sizeof record);
-
+    printf("  M2 phase %.9f degrees, frequency %.12f cycles per day\n", phase, frequency);
     printf("  zonal tides: UT1 %" PRId32 " ns, length of day %" PRId32 " ps, rate %" PRId32 "e-20 rad/s\n", ut1, lod,
            rate);
-    printf("  nutation: X %" PRId64 " nas, Y %" PRId64 " nas, uncertainty %" PRIu64 " nas\n",
-           enfys_nutation_x(day, micros), enfys_nutation_y(day, micros), enfys_nutation_uncertainty(day, micros));
-
-    /* The same record, put together by hand and read back. */
-    uint8_t again[ENFYS_RECORD_BYTES];
-
-    refusal = enfys_record_write(day, micros, ut1, lod, rate, again, sizeof again);
-    if (refusal != ENFYS_OK || memcmp(record, again, sizeof record) != 0)
-        return 1;
-    printf("  record ");
-    show_bytes(again, sizeof again);
-    printf("  read back:\n  ");
-    show_instant(enfys_record_day(again, sizeof again), enfys_record_micros(again, sizeof again));
-    again[20] ^= 0x10;
-    refusal = enfys_record_refusal(again, sizeof again);
-    printf("  with one bit changed: refused %" PRIu32 ", %s\n", refusal, text(refusal));
-    return 0;
+    printf("  nutation: X %" PRId64 " nas, Y %" PRId64 " nas, uncertainty %" PRIu64 " nas\n", x, y, uncertainty);
+    return record_and_read(day, micros, ut1, lod, rate);
 }
 
 static void show(uint32_t refusal, const char *call)
@@ -156,22 +171,17 @@ int main(void)
 {
     for (int attempt = 1; attempt <= 3; attempt++) {
         struct words words = read_clock(attempt);
-        uint32_t refusal = enfys_join_refusal(words.day, words.time);
+        int64_t day;
+        uint64_t micros;
+        uint32_t refusal = enfys_join(words.day, words.time, &day, &micros);
 
         printf("clock words %" PRId64 " and %" PRIu64 "\n", words.day, words.time);
-        if (refusal == ENFYS_WORDS_DISAGREE) {
-            printf("  refused 10: %s\n", text(refusal));
-            continue;
-        }
-        if (refusal != ENFYS_OK) {
-            printf("  refused %" PRIu32 ": %s\n", refusal, text(refusal));
+        if (refused(refusal)) {
+            if (refusal == ENFYS_WORDS_DISAGREE)
+                continue;
             return 1;
         }
-        int64_t day = enfys_join_day(words.day, words.time);
-        uint64_t micros = enfys_join_micros(words.day, words.time);
-
-        show_instant(day, micros);
-        if (serve(day, micros) != 0)
+        if (show_instant(day, micros) != 0 || serve(day, micros) != 0)
             return 1;
         break;
     }

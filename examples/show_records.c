@@ -7,17 +7,26 @@
 #include <inttypes.h>
 #include <stdio.h>
 
-static void show(const uint8_t *record)
+/* Prints one record, unless reading it is refused. */
+static uint32_t show(const uint8_t *record)
 {
-    int64_t day = enfys_record_day(record, ENFYS_RECORD_BYTES);
-    uint64_t micros = enfys_record_micros(record, ENFYS_RECORD_BYTES);
+    int64_t day;
+    uint64_t micros, year, month, day_of_month;
+    int32_t ut1, lod, rate;
+    uint32_t refusal = enfys_record_read(record, ENFYS_RECORD_BYTES, &day, &micros, &ut1, &lod, &rate);
+
+    if (refusal == ENFYS_OK)
+        refusal = enfys_date_of_day(day, &year, &month, &day_of_month);
+    if (refusal != ENFYS_OK)
+        return refusal;
+
     uint64_t seconds = micros / 1000000;
 
     printf("%04" PRIu64 "-%02" PRIu64 "-%02" PRIu64 " %02" PRIu64 ":%02" PRIu64 ":%02" PRIu64 ".%06" PRIu64
            " %12" PRId32 " %14" PRId32 " %18" PRId32 "\n",
-           enfys_day_to_year(day), enfys_day_to_month(day), enfys_day_to_day_of_month(day), seconds / 3600,
-           seconds / 60 % 60, seconds % 60, micros % 1000000, enfys_record_ut1(record, ENFYS_RECORD_BYTES),
-           enfys_record_lod(record, ENFYS_RECORD_BYTES), enfys_record_rate(record, ENFYS_RECORD_BYTES));
+           year, month, day_of_month, seconds / 3600, seconds / 60 % 60, seconds % 60, micros % 1000000, ut1, lod,
+           rate);
+    return ENFYS_OK;
 }
 
 int main(void)
@@ -31,13 +40,12 @@ int main(void)
     }
     printf("%-26s %12s %14s %18s\n", "date and time (TT)", "UT1, ns", "day length, ps", "rate, 1e-20 rad/s");
     for (at = 0; at + ENFYS_RECORD_BYTES <= length; at += ENFYS_RECORD_BYTES) {
-        uint32_t refusal = enfys_record_refusal(bytes + at, ENFYS_RECORD_BYTES);
+        uint32_t refusal = show(bytes + at);
 
         if (refusal != ENFYS_OK) {
             fprintf(stderr, "show_records: no record at byte %zu (refusal %" PRIu32 ")\n", at, refusal);
             return 1;
         }
-        show(bytes + at);
     }
     if (at != length || length == 0) {
         fprintf(stderr, "show_records: the input is not a run of at most %d records\n", ENFYS_RUN_RECORDS);

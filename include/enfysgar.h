@@ -9,11 +9,26 @@
  *
  * The archive is for x86-64 Linux.
  *
- * Any value of any parameter is answered; nothing has to be checked first, and
- * what cannot be answered is refused by a number (the table below). Pointers are
- * the one exception: `length` bytes of the caller's memory must stand behind one.
+ * A call gives a whole answer: it returns the refusal number and, where that is 0,
+ * writes every number of the answer through its pointers (two calls of (g) fill a
+ * buffer). On a refusal it writes nothing. Each number can be asked for by itself
+ * too: see the end of this header.
+ *
+ * A number that is a parameter may have any value; nothing has to be checked first,
+ * and what cannot be answered is refused by a number (the table below). Pointers
+ * have to be right, also where the call refuses:
+ *
+ *   - A pointer through which a number is written is not NULL and is aligned for
+ *     its type. No two of one call are alike or overlap, nor do they overlap the
+ *     bytes that are lent to it. The numbers need no value before the call.
+ *   - `buffer` and `bytes` point to `length` bytes of the caller's memory. With
+ *     length 0 the pointer is not used, and may be NULL.
+ *   - During the call nothing else reads or writes what the call can write (the
+ *     numbers, the buffer), nor writes what it reads (the bytes).
+ *
  * No call keeps anything between two calls, allocates memory, or reads or writes
- * anything but its arguments, so any number of threads may call at once.
+ * anything but its arguments and what they point to, so any number of threads may
+ * call at once.
  *
  * Only the calls of (d) use floating point, and only they depend on the thread's
  * floating-point environment. They need what a C program starts with: binary64
@@ -29,11 +44,6 @@
  *   micros   microseconds of that day, from 0 to 86399999999.
  *   instant  a day and its micros, in Terrestrial Time (TT). An instant is
  *            accepted when neither 8 nor 9 applies to it.
- *
- * A service that has several numbers to give is several calls with the same
- * parameters: one for each number, and one that ends in `_refusal`. The calls
- * of one group always agree: either the refusal is 0 and the numbers are the
- * answer, or the refusal is not 0 and each number is 0 (+0.0 for a double).
  *
  * This software is derived from routines of the IERS Conventions. It is not IERS
  * Conventions software, and is neither distributed nor endorsed by the IERS
@@ -54,9 +64,9 @@ extern "C" {
  * parameters, the minor number where calls are added, the patch number otherwise.
  */
 #define ENFYS_VERSION_MAJOR 1
-#define ENFYS_VERSION_MINOR 0
-#define ENFYS_VERSION_PATCH 1
-#define ENFYS_VERSION_STRING "1.0.1"
+#define ENFYS_VERSION_MINOR 1
+#define ENFYS_VERSION_PATCH 0
+#define ENFYS_VERSION_STRING "1.1.0"
 
 /*
  * Refusal numbers. 0 is success. Where several apply, the first in the order
@@ -98,29 +108,21 @@ enum {
  */
 
 /* The day number of a date. Refused: 1, 2, 3, in this order. */
-int64_t enfys_date_to_day(uint64_t year, uint64_t month, uint64_t day_of_month);
-uint32_t enfys_date_refusal(uint64_t year, uint64_t month, uint64_t day_of_month);
+uint32_t enfys_day_of_date(uint64_t year, uint64_t month, uint64_t day_of_month,
+                           int64_t *day);
 
 /* The date of a day number. Refused: 8. */
-uint64_t enfys_day_to_year(int64_t day);
-uint64_t enfys_day_to_month(int64_t day);
-uint64_t enfys_day_to_day_of_month(int64_t day);
-uint32_t enfys_day_refusal(int64_t day);
+uint32_t enfys_date_of_day(int64_t day, uint64_t *year, uint64_t *month,
+                           uint64_t *day_of_month);
 
 /*
  * (b) Date and time of day (TT) to an instant.
  * `microsecond` is the part of the second, 0 to 999999; the answer's micros
  * count from 0 h. Refused: 1, 2, 3, 4, 5, 6, 7, in this order.
  */
-int64_t enfys_instant_day(uint64_t year, uint64_t month, uint64_t day_of_month,
-                          uint64_t hour, uint64_t minute, uint64_t second,
-                          uint64_t microsecond);
-uint64_t enfys_instant_micros(uint64_t year, uint64_t month, uint64_t day_of_month,
-                              uint64_t hour, uint64_t minute, uint64_t second,
-                              uint64_t microsecond);
-uint32_t enfys_instant_refusal(uint64_t year, uint64_t month, uint64_t day_of_month,
-                               uint64_t hour, uint64_t minute, uint64_t second,
-                               uint64_t microsecond);
+uint32_t enfys_instant(uint64_t year, uint64_t month, uint64_t day_of_month,
+                       uint64_t hour, uint64_t minute, uint64_t second,
+                       uint64_t microsecond, int64_t *day, uint64_t *micros);
 
 /*
  * (c) Clock words: an instant in two words that may be read one after the other.
@@ -129,9 +131,8 @@ uint32_t enfys_instant_refusal(uint64_t year, uint64_t month, uint64_t day_of_mo
  */
 
 /* An instant as two words. Refused: 8, 9, in this order. */
-int64_t enfys_split_day_word(int64_t day, uint64_t micros);
-uint64_t enfys_split_time_word(int64_t day, uint64_t micros);
-uint32_t enfys_split_refusal(int64_t day, uint64_t micros);
+uint32_t enfys_split(int64_t day, uint64_t micros, int64_t *day_word,
+                     uint64_t *time_word);
 
 /*
  * Two words as an instant: micros is time_word mod 137438953472, the mark is the
@@ -144,9 +145,8 @@ uint32_t enfys_split_refusal(int64_t day, uint64_t micros);
  * same mark: such words are joined, and nothing here can notice it (23:59 of a day
  * and 0:00 of the eighth day after it are such, though less than eight days apart).
  */
-int64_t enfys_join_day(int64_t day_word, uint64_t time_word);
-uint64_t enfys_join_micros(int64_t day_word, uint64_t time_word);
-uint32_t enfys_join_refusal(int64_t day_word, uint64_t time_word);
+uint32_t enfys_join(int64_t day_word, uint64_t time_word, int64_t *day,
+                    uint64_t *micros);
 
 /*
  * (d) Frequency, in cycles per day, and phase, in degrees, of the tidal
@@ -162,12 +162,9 @@ uint32_t enfys_join_refusal(int64_t day_word, uint64_t time_word);
  * instant's TT. With the hour angle of UT1 the phase would be smaller by
  * 360 * k1 * (TT - UT1) / day degrees: for M2 by about half a degree in 2009.
  */
-double enfys_tide_frequency(int64_t day, uint64_t micros, int64_t k1, int64_t k2,
-                            int64_t k3, int64_t k4, int64_t k5, int64_t k6);
-double enfys_tide_phase(int64_t day, uint64_t micros, int64_t k1, int64_t k2,
-                        int64_t k3, int64_t k4, int64_t k5, int64_t k6);
-uint32_t enfys_tide_refusal(int64_t day, uint64_t micros, int64_t k1, int64_t k2,
-                            int64_t k3, int64_t k4, int64_t k5, int64_t k6);
+uint32_t enfys_tide(int64_t day, uint64_t micros, int64_t k1, int64_t k2, int64_t k3,
+                    int64_t k4, int64_t k5, int64_t k6, double *frequency,
+                    double *phase);
 
 /*
  * (e) Zonal-tide corrections at an instant, whole numbers:
@@ -178,26 +175,18 @@ uint32_t enfys_tide_refusal(int64_t day, uint64_t micros, int64_t k1, int64_t k2
  *
  * The exact sums are those of RULES.md, which is installed with this header.
  * Refused: 8, 9, in this order.
- *
- * Each of these calls computes the whole sum of sixty-two terms again. A caller
- * who wants all three numbers writes a run of one record (enfys_run_write with
- * count 1 and a step of 1) and reads them from it: one sum in place of three.
  */
-int32_t enfys_zonal_ut1(int64_t day, uint64_t micros);
-int32_t enfys_zonal_lod(int64_t day, uint64_t micros);
-int32_t enfys_zonal_rate(int64_t day, uint64_t micros);
-uint32_t enfys_zonal_refusal(int64_t day, uint64_t micros);
+uint32_t enfys_zonal(int64_t day, uint64_t micros, int32_t *ut1, int32_t *lod,
+                     int32_t *rate);
 
 /*
- * (f) Free-core-nutation offsets of the celestial pole at an instant, in whole
- * nanoarcseconds (0.001 microarcsecond), each within 2 of the exact offset, and
- * the uncertainty of either axis, exact and rounded up to a whole nanoarcsecond.
+ * (f) Free-core-nutation offsets x and y of the celestial pole at an instant, in
+ * whole nanoarcseconds (0.001 microarcsecond), each within 2 of the exact offset,
+ * and the uncertainty of either axis, exact and rounded up to a whole nanoarcsecond.
  * Refused: 8, 9, in this order.
  */
-int64_t enfys_nutation_x(int64_t day, uint64_t micros);
-int64_t enfys_nutation_y(int64_t day, uint64_t micros);
-uint64_t enfys_nutation_uncertainty(int64_t day, uint64_t micros);
-uint32_t enfys_nutation_refusal(int64_t day, uint64_t micros);
+uint32_t enfys_nutation(int64_t day, uint64_t micros, int64_t *x, int64_t *y,
+                        uint64_t *uncertainty);
 
 /*
  * (g) Records. A record is 30 bytes, each number with its high byte first:
@@ -211,16 +200,12 @@ uint32_t enfys_nutation_refusal(int64_t day, uint64_t micros);
  *   20-23  lod     } signed, two's complement, units as in (e)
  *   24-27  rate   /
  *   28-29  the number that makes the sum of all fifteen 16-bit words 0 modulo 65536
- *
- * `buffer` and `bytes` point to `length` bytes of the caller's. During the call
- * nothing else may write them, nor read what the call writes. With length 0 the
- * pointer is not used, and may be NULL.
  */
 
 /*
- * Writes one record. Any three numbers can be written. Returns the refusal:
- * 8, 9, 12 (length below 30), in this order. On success bytes 0 to 29 of the
- * buffer are the record and no other byte has changed; on a refusal no byte has.
+ * Writes one record. Any three numbers can be written. Refused: 8, 9, 12 (length
+ * below 30), in this order. On success bytes 0 to 29 of the buffer are the record
+ * and no other byte has changed; on a refusal no byte has.
  */
 uint32_t enfys_record_write(int64_t day, uint64_t micros, int32_t ut1, int32_t lod,
                             int32_t rate, uint8_t *buffer, size_t length);
@@ -232,34 +217,91 @@ uint32_t enfys_record_write(int64_t day, uint64_t micros, int32_t ut1, int32_t l
  * A record that reads is, byte for byte, what enfys_record_write writes for the
  * instant and the three numbers that it gives.
  */
+uint32_t enfys_record_read(const uint8_t *bytes, size_t length, int64_t *day,
+                           uint64_t *micros, int32_t *ut1, int32_t *lod,
+                           int32_t *rate);
+
+/*
+ * Writes a run: count records, at the instants start + k * step_micros for k from
+ * 0 to count - 1, each with the three numbers of service (e) for its instant.
+ * Record k fills bytes 30k to 30k + 29. Refused, in this order: 17 (count),
+ * 18 (step), 8 (the start's day), 9 (the start's micros), 8 (the last instant is
+ * after day 88433), 12 (length below 30 * count). On success no byte past
+ * 30 * count has changed; on a refusal no byte has. A step is refused by 18 even
+ * where count is 1 and it would not be used.
+ */
+uint32_t enfys_run_write(int64_t day, uint64_t micros, uint64_t count,
+                         uint64_t step_micros, uint8_t *buffer, size_t length);
+
+/*
+ * Each number by itself
+ *
+ * Each call below gives one number of a whole answer above, for the same inputs.
+ * Units, rules and refusals are those of the service. On a refusal the number is 0
+ * (+0.0 for a double); the call of the group that ends in `_refusal` gives the
+ * refusal number. The calls of a group always agree, with each other and with the
+ * whole answer. Each computes the whole answer again: a caller who wants several
+ * of its numbers uses the call above.
+ */
+
+/* (a) The day number of a date, as in enfys_day_of_date. */
+int64_t enfys_date_to_day(uint64_t year, uint64_t month, uint64_t day_of_month);
+uint32_t enfys_date_refusal(uint64_t year, uint64_t month, uint64_t day_of_month);
+
+/* (a) The date of a day number, as in enfys_date_of_day. */
+uint64_t enfys_day_to_year(int64_t day);
+uint64_t enfys_day_to_month(int64_t day);
+uint64_t enfys_day_to_day_of_month(int64_t day);
+uint32_t enfys_day_refusal(int64_t day);
+
+/* (b) The instant of a date and a time of day, as in enfys_instant. */
+int64_t enfys_instant_day(uint64_t year, uint64_t month, uint64_t day_of_month,
+                          uint64_t hour, uint64_t minute, uint64_t second,
+                          uint64_t microsecond);
+uint64_t enfys_instant_micros(uint64_t year, uint64_t month, uint64_t day_of_month,
+                              uint64_t hour, uint64_t minute, uint64_t second,
+                              uint64_t microsecond);
+uint32_t enfys_instant_refusal(uint64_t year, uint64_t month, uint64_t day_of_month,
+                               uint64_t hour, uint64_t minute, uint64_t second,
+                               uint64_t microsecond);
+
+/* (c) An instant as two words, as in enfys_split. */
+int64_t enfys_split_day_word(int64_t day, uint64_t micros);
+uint64_t enfys_split_time_word(int64_t day, uint64_t micros);
+uint32_t enfys_split_refusal(int64_t day, uint64_t micros);
+
+/* (c) Two words as an instant, as in enfys_join. */
+int64_t enfys_join_day(int64_t day_word, uint64_t time_word);
+uint64_t enfys_join_micros(int64_t day_word, uint64_t time_word);
+uint32_t enfys_join_refusal(int64_t day_word, uint64_t time_word);
+
+/* (d) Frequency and phase, as in enfys_tide. */
+double enfys_tide_frequency(int64_t day, uint64_t micros, int64_t k1, int64_t k2,
+                            int64_t k3, int64_t k4, int64_t k5, int64_t k6);
+double enfys_tide_phase(int64_t day, uint64_t micros, int64_t k1, int64_t k2,
+                        int64_t k3, int64_t k4, int64_t k5, int64_t k6);
+uint32_t enfys_tide_refusal(int64_t day, uint64_t micros, int64_t k1, int64_t k2,
+                            int64_t k3, int64_t k4, int64_t k5, int64_t k6);
+
+/* (e) The three corrections, as in enfys_zonal. */
+int32_t enfys_zonal_ut1(int64_t day, uint64_t micros);
+int32_t enfys_zonal_lod(int64_t day, uint64_t micros);
+int32_t enfys_zonal_rate(int64_t day, uint64_t micros);
+uint32_t enfys_zonal_refusal(int64_t day, uint64_t micros);
+
+/* (f) The offsets and their uncertainty, as in enfys_nutation. */
+int64_t enfys_nutation_x(int64_t day, uint64_t micros);
+int64_t enfys_nutation_y(int64_t day, uint64_t micros);
+uint64_t enfys_nutation_uncertainty(int64_t day, uint64_t micros);
+uint32_t enfys_nutation_refusal(int64_t day, uint64_t micros);
+
+/* (g) What a record has, as in enfys_record_read. */
 int64_t enfys_record_day(const uint8_t *bytes, size_t length);
 uint64_t enfys_record_micros(const uint8_t *bytes, size_t length);
 int32_t enfys_record_ut1(const uint8_t *bytes, size_t length);
 int32_t enfys_record_lod(const uint8_t *bytes, size_t length);
 int32_t enfys_record_rate(const uint8_t *bytes, size_t length);
 uint32_t enfys_record_refusal(const uint8_t *bytes, size_t length);
-
-/*
- * Writes a run: count records, at the instants start + k * step_micros for k from
- * 0 to count - 1, each with the three numbers of service (e) for its instant.
- * Record k fills bytes 30k to 30k + 29. Returns the refusal, in this order:
- * 17 (count), 18 (step), 8 (the start's day), 9 (the start's micros), 8 (the last
- * instant is after day 88433), 12 (length below 30 * count). On success no byte
- * past 30 * count has changed; on a refusal no byte has. A step is refused by 18
- * even where count is 1 and it would not be used.
- */
-uint32_t enfys_run_write(int64_t day, uint64_t micros, uint64_t count,
-                         uint64_t step_micros, uint8_t *buffer, size_t length);
-
-uint32_t enfys_day_of_date(uint64_t year, uint64_t month, uint64_t day_of_month, int64_t *day);
-uint32_t enfys_date_of_day(int64_t day, uint64_t *year, uint64_t *month, uint64_t *day_of_month);
-uint32_t enfys_instant(uint64_t year, uint64_t month, uint64_t day_of_month, uint64_t hour, uint64_t minute, uint64_t second, uint64_t microsecond, int64_t *day, uint64_t *micros);
-uint32_t enfys_split(int64_t day, uint64_t micros, int64_t *day_word, uint64_t *time_word);
-uint32_t enfys_join(int64_t day_word, uint64_t time_word, int64_t *day, uint64_t *micros);
-uint32_t enfys_tide(int64_t day, uint64_t micros, int64_t k1, int64_t k2, int64_t k3, int64_t k4, int64_t k5, int64_t k6, double *frequency, double *phase);
-uint32_t enfys_zonal(int64_t day, uint64_t micros, int32_t *ut1, int32_t *lod, int32_t *rate);
-uint32_t enfys_nutation(int64_t day, uint64_t micros, int64_t *x, int64_t *y, uint64_t *uncertainty);
-uint32_t enfys_record_read(const uint8_t *bytes, size_t length, int64_t *day, uint64_t *micros, int32_t *ut1, int32_t *lod, int32_t *rate);
 
 #ifdef __cplusplus
 }

@@ -13,14 +13,16 @@
 int model_mistake;
 uint64_t calls;
 static const char *name;
+static const char *mistaken_call = "";
 
 void begin(const char *test, int argc, char **argv)
 {
     name = test;
-    if (argc == 3 && strcmp(argv[1], "mistake") == 0)
+    if ((argc == 3 || argc == 4) && strcmp(argv[1], "mistake") == 0) {
         model_mistake = atoi(argv[2]);
-    else if (argc != 1) {
-        fprintf(stderr, "usage: %s [mistake N]\n", argv[0]);
+        mistaken_call = argc == 4 ? argv[3] : "";
+    } else if (argc != 1) {
+        fprintf(stderr, "usage: %s [mistake N [CALL]]\n", argv[0]);
         exit(2);
     }
 }
@@ -192,4 +194,77 @@ uint8_t *lent(size_t size)
 void lent_free(uint8_t *block, size_t size)
 {
     munmap(block - (pages(size) - size), pages(size) + pages(1));
+}
+
+/* A number is the last bytes of its place; those before it are guards. Behind it nothing is mapped. */
+#define PLACES 5
+#define PLACE_BYTES 16
+
+static uint8_t *place[PLACES], expected[PLACES][PLACE_BYTES];
+char places_got[PLACES * (2 * PLACE_BYTES + 1) + 32], places_expected[sizeof places_got];
+
+void *place_of(int i, size_t size)
+{
+    return place[i] + PLACE_BYTES - size;
+}
+
+void fill_places(size_t count)
+{
+    for (size_t i = 0; i < count; i++) {
+        uint64_t x[PLACE_BYTES / 8] = {any(), any()};
+
+        if (place[i] == NULL)
+            place[i] = lent(PLACE_BYTES);
+        memcpy(place[i], x, PLACE_BYTES);
+        memcpy(expected[i], x, PLACE_BYTES);
+    }
+}
+
+/* 1 where mistake n is to be made for this call. */
+static unsigned made(int n, const char *call)
+{
+    return MISTAKE(n, 0, 1) && strncmp(call, mistaken_call, strlen(mistaken_call)) == 0;
+}
+
+/*
+ * What has to stand in the places after the call: the numbers of the answer, or what stood there. The
+ * comment beside each made() says what the mistake is.
+ */
+static void expect(const char *call, uint32_t refusal, const struct number *want, size_t count)
+{
+    size_t written = refusal ? 0 : count - made(71, call); /* the last is not written */
+
+    for (size_t i = 0; i < count; i++) {
+        size_t n = i + made(72, call); /* each a place too early */
+
+        if (n < written)
+            memcpy(expected[i] + PLACE_BYTES - want[n].size, want[n].at, want[n].size);
+        else if (made(73, call)) /* zeros on a refusal */
+            memset(expected[i] + PLACE_BYTES - want[i].size, 0, want[i].size);
+        expected[i][0] ^= (uint8_t)made(74, call); /* a guard changed */
+    }
+}
+
+/* Adds place i to a text that starts with the refusal. */
+static void text_places(char *text, uint32_t refusal, size_t i, const uint8_t *bytes)
+{
+    if (i == 0)
+        sprintf(text, "%" PRIu32 ", guards and numbers", refusal);
+    text += strlen(text);
+    for (size_t n = 0; n < PLACE_BYTES; n++)
+        text += sprintf(text, n == 0 ? " %02x" : "%02x", bytes[n]);
+}
+
+int whole(const char *call, uint32_t got, uint32_t refusal, const struct number *want, size_t count)
+{
+    int same = got == (made(75, call) ? 0 : refusal); /* never refused */
+
+    expect(call, refusal, want, count);
+    for (size_t i = 0; i < count; i++)
+        same = same && memcmp(place[i], expected[i], PLACE_BYTES) == 0;
+    for (size_t i = 0; i < count && !same; i++) {
+        text_places(places_got, got, i, place[i]);
+        text_places(places_expected, refusal, i, expected[i]);
+    }
+    return same;
 }

@@ -1,6 +1,7 @@
 /*
- * What the test programs share: counting and comparing calls, random numbers
- * from a fixed seed, and values at the edges of types and ranges.
+ * What the test programs share: counting and comparing calls, whole answers
+ * among them, random numbers from a fixed seed, and values at the edges of
+ * types and ranges.
  */
 #ifndef CHECK_H
 #define CHECK_H
@@ -9,7 +10,7 @@
 #include <stddef.h>
 #include <stdint.h>
 
-/* Reads the arguments (`mistake N`, see model.h) and names the test. */
+/* Reads the arguments (`mistake N`, see model.h; `mistake N CALL`, see WHOLE) and names the test. */
 void begin(const char *test, int argc, char **argv);
 /* Prints the one line of a test that passed, with a note at its end or NULL. */
 int end(const char *note);
@@ -46,6 +47,37 @@ uint64_t bits_of(double x);
 #define WITHIN(distance, call, expected, ...)                                                                       \
     SAME(double, (got_ >= expected_ - (distance)) && (got_ <= expected_ + (distance)), text_double, (double)(call), \
          expected, __VA_ARGS__)
+
+/*
+ * Whole answers. A call writes each number of its answer through a pointer, or none. Number i has a
+ * place of its own, between guard bytes and unmapped memory; OUT is the pointer to it.
+ *
+ *     const struct number want[] = {NUMBER(x), NUMBER(y)};
+ *     WHOLE(enfys_call(input, OUT(int64_t, 0), OUT(double, 1)), refusal, want, "inputs", ..);
+ *
+ * fills the places with anything, makes the call once, and compares the refusal and every byte of the
+ * places: the numbers where the refusal is 0, otherwise what stood there, and the guards. What is
+ * expected has planted mistakes (71 to 75 in check.c), each made for the call that `mistake N CALL` names.
+ */
+struct number {
+    const void *at;
+    size_t size;
+};
+#define NUMBER(x) ((struct number){&(x), sizeof(x)})
+#define OUT(type, i) ((type *)place_of(i, sizeof(type)))
+#define WHOLE(call, refusal, want, ...)                               \
+    do {                                                              \
+        const size_t count_ = sizeof(want) / sizeof *(want);          \
+        fill_places(count_);                                          \
+        uint32_t got_ = (call);                                       \
+        calls++;                                                      \
+        if (!whole(#call, got_, refusal, want, count_))               \
+            differs(#call, places_got, places_expected, __VA_ARGS__); \
+    } while (0)
+void *place_of(int i, size_t size);
+void fill_places(size_t count);
+int whole(const char *call, uint32_t got, uint32_t refusal, const struct number *want, size_t count);
+extern char places_got[], places_expected[];
 
 /* A random number: of 64 bits, from 0 to n - 1, from low to high. */
 uint64_t any(void);

@@ -9,20 +9,25 @@ static void date(uint64_t y, uint64_t m, uint64_t d)
 {
     int64_t want;
     uint32_t refusal = model_day_of_date((struct date){y, m, d}, &want);
+    const struct number numbers[] = {NUMBER(want)};
 
     SAME_U(enfys_date_refusal(y, m, d), refusal, DATE);
     SAME_I(enfys_date_to_day(y, m, d), want, DATE);
+    WHOLE(enfys_day_of_date(y, m, d, OUT(int64_t, 0)), refusal, numbers, DATE);
 }
 
 static void day(int64_t n)
 {
     struct date want;
     uint32_t refusal = model_date_of_day(n, &want);
+    const struct number numbers[] = {NUMBER(want.year), NUMBER(want.month), NUMBER(want.day)};
 
     SAME_U(enfys_day_refusal(n), refusal, "day %" PRId64, n);
     SAME_U(enfys_day_to_year(n), want.year, "day %" PRId64, n);
     SAME_U(enfys_day_to_month(n), want.month, "day %" PRId64, n);
     SAME_U(enfys_day_to_day_of_month(n), want.day, "day %" PRId64, n);
+    WHOLE(enfys_date_of_day(n, OUT(uint64_t, 0), OUT(uint64_t, 1), OUT(uint64_t, 2)), refusal, numbers, "day %" PRId64,
+          n);
 }
 
 /* Each day from 1900 to 2100: there, back, and the date's neighbours. */
@@ -33,6 +38,7 @@ static void every_day(void)
 
         day(n);
         SAME_I(enfys_date_to_day(y, m, d), n, DATE);
+        date(y, m, d);
         date(y, m, d - 1);
         date(y, m, d + 1);
         date(y, m - 1, d);
@@ -70,6 +76,7 @@ static void reference(void)
 
         SAME_I(enfys_date_to_day(y, m, d), row[i].day, DATE);
         SAME_U(enfys_date_refusal(y, m, d), row[i].refusal, DATE);
+        date(y, m, d);
     }
 }
 

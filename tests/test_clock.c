@@ -10,20 +10,24 @@ static void split(int64_t day, uint64_t micros)
 {
     struct instant want;
     uint32_t refusal = model_split((struct instant){day, micros}, &want);
+    const struct number numbers[] = {NUMBER(want.day), NUMBER(want.micros)};
 
     SAME_U(enfys_split_refusal(day, micros), refusal, INSTANT);
     SAME_I(enfys_split_day_word(day, micros), want.day, INSTANT);
     SAME_U(enfys_split_time_word(day, micros), want.micros, INSTANT);
+    WHOLE(enfys_split(day, micros, OUT(int64_t, 0), OUT(uint64_t, 1)), refusal, numbers, INSTANT);
 }
 
 static void join(int64_t d, uint64_t t)
 {
     struct instant want;
     uint32_t refusal = model_join((struct instant){d, t}, &want);
+    const struct number numbers[] = {NUMBER(want.day), NUMBER(want.micros)};
 
     SAME_U(enfys_join_refusal(d, t), refusal, WORDS);
     SAME_I(enfys_join_day(d, t), want.day, WORDS);
     SAME_U(enfys_join_micros(d, t), want.micros, WORDS);
+    WHOLE(enfys_join(d, t, OUT(int64_t, 0), OUT(uint64_t, 1)), refusal, numbers, WORDS);
 }
 
 static void reference(void)
@@ -31,6 +35,9 @@ static void reference(void)
     SAME_U(enfys_split_time_word(54465, 0), MARK, "day 54465, micros 0");
     SAME_U(enfys_join_refusal(54465, MARK), 0, "day word 54465, time word of its 0 h");
     SAME_U(enfys_join_refusal(54465, 2 * MARK), 10, "day word 54465, time word of the next 0 h");
+    split(54465, 0);
+    join(54465, MARK);
+    join(54465, 2 * MARK);
 }
 
 /*
@@ -47,6 +54,7 @@ static void torn(int64_t day, int64_t apart, uint64_t micros)
     SAME_U(enfys_join_refusal(d, t), apart == 0 ? 0 : 10, WORDS);
     SAME_I(enfys_join_day(d, t), apart == 0 ? day : 0, WORDS);
     SAME_U(enfys_join_micros(d, t), apart == 0 ? micros : 0, WORDS);
+    join(d, t);
 }
 
 /* All days: there and back, torn reads up to seven days apart. */

@@ -1,8 +1,8 @@
 /*
  * The floating-point environment: no call but those of service (d) depends on it. Every other number is
  * asked for as the program starts, and again with another rounding direction and subnormal numbers
- * flushed to zero. With mistake 61 the same is expected of service (d), which shows that the
- * environment was changed.
+ * flushed to zero. With mistake 61 the same is expected of the frequency and the phase of service (d),
+ * with mistake 62 of its whole answer, which shows that the environment was changed.
  */
 #include "../include/enfysgar.h"
 #include "check.h"
@@ -11,10 +11,39 @@
 #include <fenv.h>
 #include <xmmintrin.h>
 
-#define NUMBERS 32
+#define NUMBERS 64
 #define FLUSH_TO_ZERO 0x8040u /* of results and of operands */
 
 static const int directions[] = {FE_UPWARD, FE_DOWNWARD, FE_TOWARDZERO};
+
+/* The numbers of an instant by the calls that give a whole answer; a record is read from `bytes`. */
+static int whole_answers(int64_t day, uint64_t micros, const uint8_t bytes[ENFYS_RECORD_BYTES], uint64_t *number)
+{
+    int64_t i[7] = {0};
+    uint64_t u[8] = {0};
+    int32_t s[6] = {0};
+    double tide[2] = {0.0, 0.0};
+    int n = 0;
+
+    number[n++] = enfys_date_of_day(day, &u[0], &u[1], &u[2]);
+    number[n++] = enfys_day_of_date(u[0], u[1], u[2], &i[0]);
+    number[n++] = enfys_instant(u[0], u[1], u[2], 23, 59, 59, micros % 1000000, &i[1], &u[3]);
+    number[n++] = enfys_split(day, micros, &i[2], &u[4]);
+    number[n++] = enfys_join(i[2], u[4], &i[3], &u[5]);
+    number[n++] = enfys_tide(day, micros, 2, -1, 3, 0, 1, -2, &tide[0], &tide[1]);
+    number[n++] = enfys_zonal(day, micros, &s[0], &s[1], &s[2]);
+    number[n++] = enfys_nutation(day, micros, &i[4], &i[5], &u[6]);
+    number[n++] = enfys_record_read(bytes, ENFYS_RECORD_BYTES, &i[6], &u[7], &s[3], &s[4], &s[5]);
+    for (int k = 0; k < 7; k++)
+        number[n++] = (uint64_t)i[k];
+    for (int k = 0; k < 8; k++)
+        number[n++] = u[k];
+    for (int k = 0; k < 6; k++)
+        number[n++] = (uint64_t)s[k];
+    for (int k = 0; k < 2; k++)
+        number[n++] = MISTAKE(62, 0, bits_of(tide[k]));
+    return n;
+}
 
 /* The numbers of an instant, and how many there are. A run's records are taken as one sum. */
 static int answers(int64_t day, uint64_t micros, uint64_t number[NUMBERS])
@@ -57,7 +86,7 @@ static int answers(int64_t day, uint64_t micros, uint64_t number[NUMBERS])
     number[n++] = enfys_record_refusal(run, sizeof run);
     number[n++] = MISTAKE(61, 0, bits_of(enfys_tide_frequency(day, micros, 2, -1, 3, 0, 1, -2)));
     number[n++] = MISTAKE(61, 0, bits_of(enfys_tide_phase(day, micros, 2, -1, 3, 0, 1, -2)));
-    return n;
+    return n + whole_answers(day, micros, run, number + n);
 }
 
 static void compare(int64_t day, uint64_t micros)

@@ -19,18 +19,21 @@ static void nutation(int64_t day, uint64_t micros)
     uint32_t refusal = model_accept(at);
     double want[2];
     int64_t x, y;
+    uint64_t uncertainty = refusal ? 0 : model_uncertainty(at);
+    const struct number numbers[] = {NUMBER(x), NUMBER(y), NUMBER(uncertainty)};
 
     SAME_U(enfys_nutation_refusal(day, micros), refusal, INSTANT);
-    SAME_U(enfys_nutation_uncertainty(day, micros), refusal ? 0 : model_uncertainty(at), INSTANT);
+    SAME_U(enfys_nutation_uncertainty(day, micros), uncertainty, INSTANT);
     if (refusal) {
         SAME_I(enfys_nutation_x(day, micros), 0, INSTANT);
         SAME_I(enfys_nutation_y(day, micros), 0, INSTANT);
-        return;
+    } else {
+        model_nutation(at, want);
+        WITHIN(DISTANCE, x = enfys_nutation_x(day, micros), want[0], INSTANT);
+        WITHIN(DISTANCE, y = enfys_nutation_y(day, micros), want[1], INSTANT);
+        farthest = fmax(farthest, fmax(fabs((double)x - want[0]), fabs((double)y - want[1])));
     }
-    model_nutation(at, want);
-    WITHIN(DISTANCE, x = enfys_nutation_x(day, micros), want[0], INSTANT);
-    WITHIN(DISTANCE, y = enfys_nutation_y(day, micros), want[1], INSTANT);
-    farthest = fmax(farthest, fmax(fabs((double)x - want[0]), fabs((double)y - want[1])));
+    WHOLE(enfys_nutation(day, micros, OUT(int64_t, 0), OUT(int64_t, 1), OUT(uint64_t, 2)), refusal, numbers, INSTANT);
 }
 
 /* Four uncertainties. */

@@ -46,6 +46,19 @@ static void write_one(const struct record *r, size_t length)
                 micros, r->number[0], r->number[1], r->number[2], length);
 }
 
+#define BYTES "bytes %s (%zu)", text_bytes(bytes, length), length
+
+/* Reads the record in one call, which gives what is wanted or writes nothing. */
+static void read_whole(const uint8_t *bytes, size_t length, uint32_t refusal, const struct record *want)
+{
+    const struct number numbers[] = {NUMBER(want->at.day), NUMBER(want->at.micros), NUMBER(want->number[0]),
+                                     NUMBER(want->number[1]), NUMBER(want->number[2])};
+
+    WHOLE(enfys_record_read(bytes, length, OUT(int64_t, 0), OUT(uint64_t, 1), OUT(int32_t, 2), OUT(int32_t, 3),
+                            OUT(int32_t, 4)),
+          refusal, numbers, BYTES);
+}
+
 /* Reads the first `length` bytes of the block for that length, and sees that they stay as they are. */
 static uint32_t read_one(size_t length)
 {
@@ -53,7 +66,6 @@ static uint32_t read_one(size_t length)
     struct record want;
     uint32_t refusal = model_read(bytes, length, &want);
 
-#define BYTES "bytes %s (%zu)", text_bytes(bytes, length), length
     memcpy(before, bytes, length);
     SAME_U(enfys_record_refusal(bytes, length), refusal, BYTES);
     SAME_I(enfys_record_day(bytes, length), want.at.day, BYTES);
@@ -61,6 +73,7 @@ static uint32_t read_one(size_t length)
     SAME_I(enfys_record_ut1(bytes, length), want.number[0], BYTES);
     SAME_I(enfys_record_lod(bytes, length), want.number[1], BYTES);
     SAME_I(enfys_record_rate(bytes, length), want.number[2], BYTES);
+    read_whole(bytes, length, refusal, &want);
     if (memcmp(bytes, before, length) != 0)
         differs("enfys_record_..", text_bytes(bytes, length), text_bytes(before, length), "reading changed a byte");
     if (refusal == 0) { /* written again, it is the same record */
@@ -187,6 +200,7 @@ int main(int argc, char **argv)
     reference();
     SAME_U(enfys_record_write(54465, 0, 1, -1, 0, NULL, 0), 12, "no buffer");
     SAME_U(enfys_record_refusal(NULL, 0), 12, "no bytes");
+    read_whole(NULL, 0, 12, &(struct record){{0, 0}, {0, 0, 0}});
     for (int i = 0; i < 300000; i++) {
         struct record r = some_record(0);
 

@@ -26,7 +26,7 @@ static void records(struct instant start, uint64_t count, uint64_t step, size_t 
     for (uint64_t k = 0; k < count; k++) {
         struct instant at = model_run_instant(start, MISTAKE(53, k, 0), step);
         struct record got;
-
+        const struct number numbers[] = {NUMBER(got.number[0]), NUMBER(got.number[1]), NUMBER(got.number[2])};
         uint32_t refusal = model_read(space + BEFORE + RECORD_BYTES * k, RECORD_BYTES, &got);
 
         if (refusal != 0)
@@ -35,9 +35,8 @@ static void records(struct instant start, uint64_t count, uint64_t step, size_t 
             differs("the day of a record of the run", text_i64(got.at.day), text_i64(at.day),
                     RUN ", record %" PRIu64 ", its micros %" PRIu64 ", expected %" PRIu64, OF_RUN, k, got.at.micros,
                     at.micros);
-        SAME_I(enfys_zonal_ut1(at.day, at.micros), got.number[0], RUN ", record %" PRIu64, OF_RUN, k);
-        SAME_I(enfys_zonal_lod(at.day, at.micros), got.number[1], RUN ", record %" PRIu64, OF_RUN, k);
-        SAME_I(enfys_zonal_rate(at.day, at.micros), got.number[2], RUN ", record %" PRIu64, OF_RUN, k);
+        WHOLE(enfys_zonal(at.day, at.micros, OUT(int32_t, 0), OUT(int32_t, 1), OUT(int32_t, 2)), 0, numbers,
+              RUN ", record %" PRIu64, OF_RUN, k);
     }
 }
 

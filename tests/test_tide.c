@@ -13,11 +13,13 @@ static void tide(int64_t day, uint64_t micros, const int64_t k[6])
 {
     struct instant at = {day, micros};
     uint32_t refusal = model_tide_refusal(at, k);
-    double phase;
+    double frequency = refusal ? 0.0 : model_frequency(at, k), phase = refusal ? 0.0 : model_phase(at, k);
+    const struct number numbers[] = {NUMBER(frequency), NUMBER(phase)};
 
     SAME_U(enfys_tide_refusal(ALL), refusal, INPUTS);
-    SAME_BITS(enfys_tide_frequency(ALL), refusal ? 0.0 : model_frequency(at, k), INPUTS);
-    SAME_BITS(phase = enfys_tide_phase(ALL), refusal ? 0.0 : model_phase(at, k), INPUTS);
+    SAME_BITS(enfys_tide_frequency(ALL), frequency, INPUTS);
+    SAME_BITS(enfys_tide_phase(ALL), phase, INPUTS);
+    WHOLE(enfys_tide(ALL, OUT(double, 0), OUT(double, 1)), refusal, numbers, INPUTS);
     if (!(phase >= 0.0 && phase < 360.0))
         differs("enfys_tide_phase", text_double(phase), "at least 0 and below 360", INPUTS);
 }

@@ -20,23 +20,24 @@ static void zonal(int64_t day, uint64_t micros)
 {
     uint32_t refusal = model_accept((struct instant){day, micros});
     double want[3];
+    int32_t ut1, lod, rate;
+    const struct number numbers[] = {NUMBER(ut1), NUMBER(lod), NUMBER(rate)};
 
     SAME_U(enfys_zonal_refusal(day, micros), refusal, INSTANT);
     if (refusal) {
         SAME_I(enfys_zonal_ut1(day, micros), 0, INSTANT);
         SAME_I(enfys_zonal_lod(day, micros), 0, INSTANT);
         SAME_I(enfys_zonal_rate(day, micros), 0, INSTANT);
-        return;
+    } else {
+        model_zonal((struct instant){day, micros}, want);
+        WITHIN(20.0, ut1 = enfys_zonal_ut1(day, micros), want[0], INSTANT);
+        WITHIN(200.0, lod = enfys_zonal_lod(day, micros), want[1], INSTANT);
+        WITHIN(20.0, rate = enfys_zonal_rate(day, micros), want[2], INSTANT);
+        note(0, ut1, want[0]);
+        note(1, lod, want[1]);
+        note(2, rate, want[2]);
     }
-    int32_t ut1, lod, rate;
-
-    model_zonal((struct instant){day, micros}, want);
-    WITHIN(20.0, ut1 = enfys_zonal_ut1(day, micros), want[0], INSTANT);
-    WITHIN(200.0, lod = enfys_zonal_lod(day, micros), want[1], INSTANT);
-    WITHIN(20.0, rate = enfys_zonal_rate(day, micros), want[2], INSTANT);
-    note(0, ut1, want[0]);
-    note(1, lod, want[1]);
-    note(2, rate, want[2]);
+    WHOLE(enfys_zonal(day, micros, OUT(int32_t, 0), OUT(int32_t, 1), OUT(int32_t, 2)), refusal, numbers, INSTANT);
 }
 
 /* The case that RG_ZONT2 gives for day 54465: seconds, seconds and radians per second. */
@@ -45,6 +46,7 @@ static void reference(void)
     WITHIN(21.0, enfys_zonal_ut1(54465, 0), 7.983287678576557467e-2 * 1e9, "day 54465, micros 0");
     WITHIN(201.0, enfys_zonal_lod(54465, 0), 5.035303035410713729e-5 * 1e12, "day 54465, micros 0");
     WITHIN(21.0, enfys_zonal_rate(54465, 0), -4.249711616463017e-14 * 1e20, "day 54465, micros 0");
+    zonal(54465, 0);
 }
 
 /* Both ends of the range and the microseconds around midnights, noons and J2000. */
