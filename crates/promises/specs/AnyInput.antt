@@ -1,5 +1,6 @@
--- Demand 1: any input is answered. Each service is refused by the first number of its list that applies, and by nothing else; beside a refusal
--- every other number is 0, and no lent byte changes. That each exported call gives these numbers for every input is its contract
+-- Demand 1: any input is answered. Each service is refused by the first number of its list that applies, and by nothing else. Beside a refusal every
+-- other number is 0, no lent byte changes, and the call of the whole answer leaves every number as it stood; without one it leaves the numbers that
+-- their own calls give. That each exported call gives these numbers for every input is its contract
 -- (crates/enfysgar/src). The rules are written out here a second time, with their figures and apart from the lists and limits of the definitions (the
 -- length of a month, the mark, numbers and sums in bytes and a later day are theirs): first when each number is given, then for each service its
 -- numbers in their order.
@@ -13,25 +14,16 @@ use lib.ListN.{length}
 use lib.Signed.{ltZ, leZ}
 use Rattle.instants.specs.Refusals.{Case, case, firstRefusal}
 use Rattle.instants.specs.Instants.{laterDay}
-use Rattle.calendar.specs.Dates.{monthLength, dayOf, dateOf, dayNumberOf, dateRefusalOf, yearOf, monthOf, dayOfMonthOf, dayRefusalOf}
-use Rattle.calendar.specs.Times.{instantOf, instantDayOf, instantMicrosOf, instantRefusalOf}
-use Rattle.calendar.specs.declared.DayAnswer.{DayAnswer}
-use Rattle.calendar.specs.declared.DateAnswer.{DateAnswer}
-use Rattle.calendar.specs.declared.InstantAnswer.{InstantAnswer}
-use Rattle.clock.specs.Words.{mark, splitOf, joinOf, dayWordOf, timeWordOf, splitRefusalOf, joinedDayOf, joinedMicrosOf, joinRefusalOf}
-use Rattle.clock.specs.declared.SplitAnswer.{SplitAnswer}
-use Rattle.clock.specs.declared.JoinAnswer.{JoinAnswer}
+use Rattle.calendar.specs.Dates.{monthLength, dayOf, dateOf, dayNumberOf, dayNumberOr, dateRefusalOf, yearOf, yearOr, monthOf, monthOr, dayOfMonthOf, dayOfMonthOr, dayRefusalOf}
+use Rattle.calendar.specs.Times.{instantOf, instantDayOf, instantDayOr, instantMicrosOf, instantMicrosOr, instantRefusalOf}
+use Rattle.clock.specs.Words.{mark, splitOf, joinOf, dayWordOf, dayWordOr, timeWordOf, timeWordOr, splitRefusalOf, joinedDayOf, joinedDayOr, joinedMicrosOf, joinedMicrosOr, joinRefusalOf}
 use Rattle.tide.specs.Binary64.{zero64}
 use Rattle.tide.specs.Tidal as tide
 use Rattle.tide.specs.declared.Doodson.{Doodson}
-use Rattle.tide.specs.declared.TideAnswer as tideAnswer
 use Rattle.zonal.specs.Ours as zonal
-use Rattle.zonal.specs.declared.ZonalAnswer.{ZonalAnswer}
 use Rattle.nutation.specs.Ours as nutation
-use Rattle.nutation.specs.declared.NutationAnswer.{NutationAnswer}
 use Rattle.bigendian.specs.Numbers.{numberAt, wordSum}
-use Rattle.record.specs.Records.{writeRefusal, written, readOf, recordDayOf, recordMicrosOf, recordUt1Of, recordLodOf, recordRateOf, readRefusalOf}
-use Rattle.record.specs.declared.ReadAnswer.{ReadAnswer}
+use Rattle.record.specs.Records.{writeRefusal, written, readOf, recordDayOf, recordDayOr, recordMicrosOf, recordMicrosOr, recordUt1Of, recordUt1Or, recordLodOf, recordLodOr, recordRateOf, recordRateOr, readRefusalOf}
 use Rattle.run.specs.Run.{runRefusal, runWritten}
 
 -- ---- when each number is given
@@ -111,50 +103,62 @@ refusal17 count = case 17 (ltb count 1 || ltb 96 count)
 abbrev pub refusal18 : ℕ → Case
 refusal18 step = case 18 (ltb step 1 || ltb 86_400_000_000 step)
 
--- ---- the demand: each service by its list, zeros beside a refusal, bytes that stay
+-- ---- the demand: each service by its list, its numbers, bytes that stay
 
--- beside a refusal of the answer a, its number `value` is `zero`
-abbrev pub ZeroBeside : {A B : Type 0} → (A → ℕ) → (A → B) → B → A → Type 0
-ZeroBeside refusal value zero a = (refusal a ≡ 0 → ⊥) → value a ≡ zero
+-- One number of the answer a: `value a` is what its own call gives, and `left old a` what the call of the whole answer leaves where `old` stood.
+pub record Number {A B : Type 0} (refusal : A → ℕ) (value : A → B) (left : B → A → B) (zero : B) (a : A) : Type 0 where
+  -- without a refusal both are the same number, whatever stood there
+  pub same : refusal a ≡ 0 → (old : B) → left old a ≡ value a
+  -- beside a refusal its own call gives 0, and what stood there stays
+  pub zeroed : (refusal a ≡ 0 → ⊥) → value a ≡ zero
+  pub kept : (refusal a ≡ 0 → ⊥) → (old : B) → left old a ≡ old
 
 pub record AnyInputIsAnswered : Type 0 where
   -- (a) dates and day numbers
   pub date-to-day : (y m d : ℕ) → dateRefusalOf (dayOf y m d) ≡ firstRefusal (refusal1 y ∷ refusal2 m ∷ refusal3 y m d ∷ [])
-  pub date-to-day-zero : (a : DayAnswer) → ZeroBeside dateRefusalOf dayNumberOf (pos 0) a
+  pub date-to-day-numbers : (y m d : ℕ) → Number dateRefusalOf dayNumberOf dayNumberOr (pos 0) (dayOf y m d)
   pub day-to-date : (z : ℤ) → dayRefusalOf (dateOf z) ≡ firstRefusal (refusal8 z ∷ [])
-  pub day-to-date-zero : (a : DateAnswer) → ZeroBeside dayRefusalOf yearOf 0 a × ZeroBeside dayRefusalOf monthOf 0 a × ZeroBeside dayRefusalOf dayOfMonthOf 0 a
+  pub day-to-date-numbers : (z : ℤ)
+      → Number dayRefusalOf yearOf yearOr 0 (dateOf z) × Number dayRefusalOf monthOf monthOr 0 (dateOf z) × Number dayRefusalOf dayOfMonthOf dayOfMonthOr 0 (dateOf z)
   -- (b) date and time
   pub date-and-time : (y m d h n s u : ℕ) → instantRefusalOf (instantOf y m d h n s u)
       ≡ firstRefusal (refusal1 y ∷ refusal2 m ∷ refusal3 y m d ∷ refusal4 h ∷ refusal5 n ∷ refusal6 s ∷ refusal7 u ∷ [])
-  pub date-and-time-zero : (a : InstantAnswer) → ZeroBeside instantRefusalOf instantDayOf (pos 0) a × ZeroBeside instantRefusalOf instantMicrosOf 0 a
+  pub date-and-time-numbers : (y m d h n s u : ℕ)
+      → Number instantRefusalOf instantDayOf instantDayOr (pos 0) (instantOf y m d h n s u) × Number instantRefusalOf instantMicrosOf instantMicrosOr 0 (instantOf y m d h n s u)
   -- (c) clock words
   pub split : (d : ℤ) (m : ℕ) → splitRefusalOf (splitOf d m) ≡ firstRefusal (refusal8 d ∷ refusal9 m ∷ [])
-  pub split-zero : (a : SplitAnswer) → ZeroBeside splitRefusalOf dayWordOf (pos 0) a × ZeroBeside splitRefusalOf timeWordOf 0 a
+  pub split-numbers : (d : ℤ) (m : ℕ) → Number splitRefusalOf dayWordOf dayWordOr (pos 0) (splitOf d m) × Number splitRefusalOf timeWordOf timeWordOr 0 (splitOf d m)
   pub join : (d : ℤ) (t : ℕ) → joinRefusalOf (joinOf d t) ≡ firstRefusal (refusal8 d ∷ refusal9 (t % 137_438_953_472) ∷ refusal10 d t ∷ [])
-  pub join-zero : (a : JoinAnswer) → ZeroBeside joinRefusalOf joinedDayOf (pos 0) a × ZeroBeside joinRefusalOf joinedMicrosOf 0 a
+  pub join-numbers : (d : ℤ) (t : ℕ) → Number joinRefusalOf joinedDayOf joinedDayOr (pos 0) (joinOf d t) × Number joinRefusalOf joinedMicrosOf joinedMicrosOr 0 (joinOf d t)
   -- (d) frequency and phase
   pub phase : (d : ℤ) (m : ℕ) (k : Doodson) → tide.tideRefusalOf (tide.tideOf d m k) ≡ firstRefusal (refusal8 d ∷ refusal9 m ∷ refusal11 k ∷ [])
-  pub phase-zero : (a : tideAnswer.TideAnswer) → ZeroBeside tide.tideRefusalOf tide.frequencyOf zero64 a × ZeroBeside tide.tideRefusalOf tide.phaseOf zero64 a
+  pub phase-numbers : (d : ℤ) (m : ℕ) (k : Doodson)
+      → Number tide.tideRefusalOf tide.frequencyOf tide.frequencyOr zero64 (tide.tideOf d m k)
+      × Number tide.tideRefusalOf tide.phaseOf tide.phaseOr zero64 (tide.tideOf d m k)
   -- (e) corrections
   pub corrections : (d : ℤ) (m : ℕ) → zonal.zonalRefusalOf (zonal.zonalOf d m) ≡ firstRefusal (refusal8 d ∷ refusal9 m ∷ [])
-  pub corrections-zero : (a : ZonalAnswer)
-      → ZeroBeside zonal.zonalRefusalOf zonal.ut1Of (pos 0) a × ZeroBeside zonal.zonalRefusalOf zonal.lodOf (pos 0) a × ZeroBeside zonal.zonalRefusalOf zonal.rateOf (pos 0) a
+  pub corrections-numbers : (d : ℤ) (m : ℕ)
+      → Number zonal.zonalRefusalOf zonal.ut1Of zonal.ut1Or (pos 0) (zonal.zonalOf d m)
+      × Number zonal.zonalRefusalOf zonal.lodOf zonal.lodOr (pos 0) (zonal.zonalOf d m)
+      × Number zonal.zonalRefusalOf zonal.rateOf zonal.rateOr (pos 0) (zonal.zonalOf d m)
   -- (f) offsets
   pub offsets : (d : ℤ) (m : ℕ) → nutation.nutationRefusalOf (nutation.nutationOf d m) ≡ firstRefusal (refusal8 d ∷ refusal9 m ∷ [])
-  pub offsets-zero : (a : NutationAnswer)
-      → ZeroBeside nutation.nutationRefusalOf nutation.xOf (pos 0) a × ZeroBeside nutation.nutationRefusalOf nutation.yOf (pos 0) a × ZeroBeside nutation.nutationRefusalOf nutation.uncertaintyOf 0 a
+  pub offsets-numbers : (d : ℤ) (m : ℕ)
+      → Number nutation.nutationRefusalOf nutation.xOf nutation.xOr (pos 0) (nutation.nutationOf d m)
+      × Number nutation.nutationRefusalOf nutation.yOf nutation.yOr (pos 0) (nutation.nutationOf d m)
+      × Number nutation.nutationRefusalOf nutation.uncertaintyOf nutation.uncertaintyOr 0 (nutation.nutationOf d m)
   -- (g) one record
   pub record-write : (d : ℤ) (m n : ℕ) → writeRefusal d m n ≡ firstRefusal (refusal8 d ∷ refusal9 m ∷ refusal12 n 30 ∷ [])
   pub record-write-keeps : (d : ℤ) (m : ℕ) (ut1 lod rate : ℤ) (old : List ℕ) → (writeRefusal d m (length old) ≡ 0 → ⊥) → written d m ut1 lod rate old ≡ old
   pub record-read : (s : List ℕ) → readRefusalOf (readOf s)
       ≡ firstRefusal (refusal12 (length s) 30 ∷ refusal14 s ∷ refusal13 s ∷ refusal15 s ∷ refusal16 s
       ∷ refusal8 (recordDayWord s) ∷ refusal9 (recordTimeWord s % 137_438_953_472) ∷ refusal10 (recordDayWord s) (recordTimeWord s) ∷ [])
-  pub record-read-zero : (a : ReadAnswer)
-      → ZeroBeside readRefusalOf recordDayOf (pos 0) a
-      × ZeroBeside readRefusalOf recordMicrosOf 0 a
-      × ZeroBeside readRefusalOf recordUt1Of (pos 0) a
-      × ZeroBeside readRefusalOf recordLodOf (pos 0) a
-      × ZeroBeside readRefusalOf recordRateOf (pos 0) a
+  pub record-read-numbers : (s : List ℕ)
+      → Number readRefusalOf recordDayOf recordDayOr (pos 0) (readOf s)
+      × Number readRefusalOf recordMicrosOf recordMicrosOr 0 (readOf s)
+      × Number readRefusalOf recordUt1Of recordUt1Or (pos 0) (readOf s)
+      × Number readRefusalOf recordLodOf recordLodOr (pos 0) (readOf s)
+      × Number readRefusalOf recordRateOf recordRateOr (pos 0) (readOf s)
   -- (g) a run
   pub run-write : (d : ℤ) (m count step n : ℕ) → runRefusal d m count step n
       ≡ firstRefusal (refusal17 count ∷ refusal18 step ∷ refusal8 d ∷ refusal9 m ∷ refusal8-last (laterDay d m ((count - 1) * step)) ∷ refusal12 n (30 * count) ∷ [])
