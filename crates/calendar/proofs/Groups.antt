@@ -1,13 +1,12 @@
--- The arithmetic on groups of 400, 100 and 4 years, counted from 1201-01-01, so that a leap year comes last in its group. The quotients, each at most
--- 3 where the last group may have a day more, give the years before a day, and the remainder is below the length of its year: only a fourth year has
--- a 366th day, and only the last fourth year of a century that ends in a leap year reaches it. Assumes nothing.
+-- The arithmetic on groups of 400 and 100 years and on years, counted from 1201-01-01, so that a leap year comes last in its group. The last century of
+-- 400 years is a day longer than the others, and so may be the last year of four: with days counted in quarters, and three quarters more, the quotients
+-- give the last one its day. A remainder is below the length of its year: only a fourth year has a 366th day, and only the last fourth year of a century
+-- that ends in a leap year reaches it. Assumes nothing.
 use Prim.Native.Nat.{ℕ, _+_, _-_, _*_, _/_, _%_, _<_, _≤_}
-use mathlib.Core.Path.{_≡_, refl, ap, sym, _∙_, subst}
+use mathlib.Core.Path.{_≡_, refl, ap, sym, _∙_}
 use mathlib.Core.Logic.{_⊎_, inl, inr, ⊎-elim}
 use native.Mathlib.Decide.{decLe, ℕ-discrete}
 use native.Mathlib.Nat.{le-antisymm, mod-eq-of-lt, mul-add-mod-self-left}
-use mir.Syntax.{w64}
-use mir.Val.{Fits}
 use native.Mathlib.Omega.{arith}
 use Rattle.calendar.specs.Dates.{daysOfYears, daysBefore, dateIndex, dateAfter, date}
 use Rattle.calendar.specs.Inner.{leapDay, twelfthsAt, IsYearDay}
@@ -57,8 +56,8 @@ last-leap a b c hb hc h l (not400 p q) =
     absurd (q (omega arith))
 last-leap a b c hb hc h l (by400 p) = refl
 
--- A day's place: a groups of 400 years before it and ra days, of these b centuries and s quarters of a day, of the whole days in s y years and r
--- quarters. The three quarters that were added make the last century and the last year of four the longer ones.
+-- A day's place: `a` groups of 400 years and `ra` days; in 4 ra + 3 quarters of a day `b` centuries and `s` quarters; in 4 (s / 4) + 3 quarters `y` years
+-- and `r` quarters.
 module _ (n a ra b s y r : ℕ) (t : n + 145731 ≡ 146097 * a + ra) (la : ra < 146097) (tb : 4 * ra + 3 ≡ 146097 * b + s) (ls : s < 146097)
     (ty : 4 * (s / 4) + 3 ≡ 1461 * y + r) (lr : r < 1461) where
   -- the fours of years, the years of the last four, and the day of the year

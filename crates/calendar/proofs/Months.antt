@@ -14,7 +14,7 @@ use Rattle.calendar.specs.Inner.{leapDay, twelfthsAt}
 use Rattle.calendar.proofs.Below.{allBelow, below}
 
 -- of a leap year or another: its extra day, the days before a month, a month's length
-abbrev day : Bool → ℕ
+abbrev pub day : Bool → ℕ
 day b = cond b 1 0
 
 abbrev before : Bool → ℕ → ℕ
@@ -58,7 +58,7 @@ apart b i j = leb j i || leb (before b (suc i) + len b (suc i)) (before b (suc j
 found : Bool → ℕ → (m d : ℕ) → Bool
 found b e m d = leb 1 m && (leb m 12 && (leb 1 d && (leb d (len b m) && eqb (before b m + d) (e + 1))))
 
--- by arithmetic
+-- those that the twelfths give
 foundAt : Bool → ℕ → Bool
 foundAt b e = let w = twelfthsAt (day b) e in found b e (w / 367) (w % 367 / 12 + 1)
 

@@ -21,7 +21,7 @@ unfoldable pub timeOf : ℤ → (hour minute second microsecond : ℕ) → Insta
 timeOf d hour minute second microsecond =
     refusedOr NoInstant (timeCases hour minute second microsecond) (AtInstant (instant d (microsOfTime hour minute second microsecond)))
 
--- where the day e of a year is among its months, counted from 0, in twelfths of a day: 367 of them to a month, with thirty days for February
+-- the day e of a year, counted from 0, in twelfths of a day, where 367 count as a month: from 367 on, and 6 more to round; with thirty days for February
 abbrev pub twelfthsAt : ℕ → ℕ → ℕ
 twelfthsAt leap e = cond (ltb e (59 + leap)) (12 * e + 373) (12 * (e + 2 - leap) + 373)
 

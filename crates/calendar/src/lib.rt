@@ -126,7 +126,8 @@ pub fn day_of(year: u64, month: u64, day: u64) -> DayAnswer
     DayAnswer::Day(instants::day_at_index(years(year - 1600) + before(year, month) + (day - 1)))
 }
 
-// Where the day e of a year is among its months, counted from 0, in twelfths of a day: a month is 367 of them, since February is taken to have 30 days.
+// The day e of a year, counted from 0, in twelfths of a day. With thirty days for February the twelve months have 367 days, so 367 twelfths count as a
+// month; the first begins at 367, since months count from 1, and 6 more round to the nearest.
 fn twelfths(leap: u64, e: u64) -> u64
     requires extra { ⌜ leap ≤ 1 ⌝ }
     requires inside { ⌜ e < 365 + leap ⌝ }

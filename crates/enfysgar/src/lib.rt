@@ -1,4 +1,4 @@
-// The calls that the daemon makes, and nothing else: each answers any values, and gives zeros beside a refusal.
+// The calls that the daemon makes, and nothing else. Each answers any values. On a refusal the call of one number gives 0, and the others write nothing.
 mod calendar_calls;
 mod clock_calls;
 mod nutation_calls;

@@ -1,22 +1,19 @@
 -- Demand 1 holds. Each service's definition is the first of its own cases that applies, and its cases compute to those that are written out in
 -- specs/AnyInput.antt, in their order; since no case has the number 0, the refusal number tells an answer from a refusal. Assumes nothing.
-use mathlib.Core.Path.{_≡_, refl, sym, _∙_}
+use mathlib.Core.Path.{_≡_, refl, sym, _∙_, ap}
 use Prim.Native.Nat.{ℕ}
-use mathlib.Core.Bool.{Bool, true, false, cond, _&&_}
-use mathlib.Core.List.{List, [], _∷_, _++_}
-use native.Mathlib.Omega.{arith}
-use lib.Dec.{T, ltb}
+use mathlib.Core.List.{List, _++_}
+use lib.Dec.{T}
 use lib.IntN.{ℤ, pos}
-use borrow.Author.Tests.{ltb-true}
 use Rattle.instants.specs.Refusals.{Case, refusedOr, firstRefusal}
 use Rattle.instants.specs.Instants.{outside, instantCases}
-use Rattle.instants.proofs.FirstRefusal.{handed-on, numbered}
-use Rattle.calendar.specs.Dates.{dateCases, dayOf, dayCases, dateOf, dayNumberOf, dayNumberOr, dateRefusalOf, yearOf, yearOr, monthOf, monthOr, dayOfMonthOf, dayOfMonthOr, dayRefusalOf}
-use Rattle.calendar.specs.Times.{timeCases, instantOf, instantDayOf, instantDayOr, instantMicrosOf, instantMicrosOr, instantRefusalOf}
+use Rattle.instants.proofs.FirstRefusal.{handed-on, none-answered, refused-first, numbered, first-none}
+use Rattle.calendar.specs.Dates.{dateCases, dayOf, dayCases, dateOf, dayNumberOr, dateRefusalOf, yearOr, monthOr, dayOfMonthOr, dayRefusalOf}
+use Rattle.calendar.specs.Times.{timeCases, instantOf, instantDayOr, instantMicrosOr, instantRefusalOf}
 use Rattle.calendar.specs.declared.DayAnswer.the-variants.{NoDay}
 use Rattle.calendar.specs.declared.DateAnswer.the-variants.{NoDate}
 use Rattle.calendar.specs.declared.InstantAnswer.the-variants.{NoInstant}
-use Rattle.clock.specs.Words.{splitOf, joinCases, joinOf, dayWordOf, dayWordOr, timeWordOf, timeWordOr, splitRefusalOf, joinedDayOf, joinedDayOr, joinedMicrosOf, joinedMicrosOr, joinRefusalOf}
+use Rattle.clock.specs.Words.{splitOf, joinCases, joinOf, dayWordOr, timeWordOr, splitRefusalOf, joinedDayOr, joinedMicrosOr, joinRefusalOf}
 use Rattle.clock.specs.declared.SplitAnswer.the-variants.{NoSplit}
 use Rattle.clock.specs.declared.JoinAnswer.the-variants.{NoJoin}
 use Rattle.tide.specs.Binary64.{zero64}
@@ -27,7 +24,7 @@ use Rattle.zonal.specs.Ours as zonal
 use Rattle.zonal.specs.declared.ZonalAnswer.the-variants as zonalCase
 use Rattle.nutation.specs.Ours as nutation
 use Rattle.nutation.specs.declared.NutationAnswer.the-variants as nutationCase
-use Rattle.record.specs.Records.{writeCases, writeRefusal, readCases, readOf, recordDayOf, recordDayOr, recordMicrosOf, recordMicrosOr, recordUt1Of, recordUt1Or, recordLodOf, recordLodOr, recordRateOf, recordRateOr, readRefusalOf}
+use Rattle.record.specs.Records.{writeCases, writeRefusal, readCases, readOf, recordDayOr, recordMicrosOr, recordUt1Or, recordLodOr, recordRateOr, readRefusalOf}
 use Rattle.record.specs.declared.ReadAnswer.the-variants.{NoRecord}
 use Rattle.record.proofs.Kept as kept
 use Rattle.run.specs.Run.{runCases, runRefusal}
@@ -82,138 +79,76 @@ run d m count step n = refl
 
 -- ---- the numbers
 
-positive : (n : ℕ) → ltb 0 n ≡ true → n ≡ 0 → ⊥
-positive n p z = omega (arith, ltb-true 0 n p)
-
--- a number that is what stood there beside every refusal, and the answer's beside the answer. No case has the number 0, so that the refusal tells which
-number : {A B : Type 0} (refuse : ℕ → A) (refusal : A → ℕ) (left : B → A → B) (zero : B) (cs : List Case) (a : A)
-    → ((n : ℕ) → refusal (refuse n) ≡ n) → ((n : ℕ) (old : B) → left old (refuse n) ≡ old) → refusal a ≡ 0 → ((old : B) → left old a ≡ left zero a)
-    → T (numbered cs) → Number refusal (left zero) left zero (refusedOr refuse cs a)
-number refuse refusal left zero [] a hr hk e hs t = record { same = λ _. hs; zeroed = λ h. absurd (h e); kept = λ h. absurd (h e) }
-number {A} {B} refuse refusal left zero (c ∷ cs) a hr hk e hs t = by (c .applies) (ltb 0 (c .number)) refl t (number refuse refusal left zero cs a hr hk e hs)
-  where
-    by : (b x : Bool) → ltb 0 (c .number) ≡ x → T (x && numbered cs) → (T (numbered cs) → Number refusal (left zero) left zero (refusedOr refuse cs a))
-        → Number refusal (left zero) left zero (cond b (refuse (c .number)) (refusedOr refuse cs a))
-    by true true p u f = record {
-      same = λ z. absurd (positive (c .number) p (sym (hr (c .number)) ∙ z));
-      zeroed = λ _. hk (c .number) zero;
-      kept = λ _. hk (c .number);
-    }
-    by false true p u f = f u
-
-date-to-day-numbers : (y m d : ℕ)
-    → Number dateRefusalOf dayNumberOf dayNumberOr (pos 0) (dayOf y m d)
-unfolding dayOf
-date-to-day-numbers y m d = number NoDay dateRefusalOf dayNumberOr (pos 0) (dateCases y m d) _ (λ n. refl) (λ n old. refl) refl (λ old. refl) tt
-
-day-to-date-numbers : (z : ℤ)
-    → Number dayRefusalOf yearOf yearOr 0 (dateOf z)
-    × Number dayRefusalOf monthOf monthOr 0 (dateOf z)
-    × Number dayRefusalOf dayOfMonthOf dayOfMonthOr 0 (dateOf z)
-unfolding dateOf
-day-to-date-numbers z = (
-  number NoDate dayRefusalOf yearOr 0 (dayCases z) _ (λ n. refl) (λ n old. refl) refl (λ old. refl) tt,
-  number NoDate dayRefusalOf monthOr 0 (dayCases z) _ (λ n. refl) (λ n old. refl) refl (λ old. refl) tt,
-  number NoDate dayRefusalOf dayOfMonthOr 0 (dayCases z) _ (λ n. refl) (λ n old. refl) refl (λ old. refl) tt,
-)
-
-date-and-time-numbers : (y m d h n s u : ℕ)
-    → Number instantRefusalOf instantDayOf instantDayOr (pos 0) (instantOf y m d h n s u)
-    × Number instantRefusalOf instantMicrosOf instantMicrosOr 0 (instantOf y m d h n s u)
-unfolding instantOf
-date-and-time-numbers y m d h n s u = (
-  number NoInstant instantRefusalOf instantDayOr (pos 0) (dateCases y m d ++ timeCases h n s u) _ (λ n. refl) (λ n old. refl) refl (λ old. refl) tt,
-  number NoInstant instantRefusalOf instantMicrosOr 0 (dateCases y m d ++ timeCases h n s u) _ (λ n. refl) (λ n old. refl) refl (λ old. refl) tt,
-)
-
-split-numbers : (d : ℤ) (m : ℕ)
-    → Number splitRefusalOf dayWordOf dayWordOr (pos 0) (splitOf d m)
-    × Number splitRefusalOf timeWordOf timeWordOr 0 (splitOf d m)
-unfolding splitOf
-split-numbers d m = (
-  number NoSplit splitRefusalOf dayWordOr (pos 0) (instantCases d m) _ (λ n. refl) (λ n old. refl) refl (λ old. refl) tt,
-  number NoSplit splitRefusalOf timeWordOr 0 (instantCases d m) _ (λ n. refl) (λ n old. refl) refl (λ old. refl) tt,
-)
-
-join-numbers : (d : ℤ) (t : ℕ)
-    → Number joinRefusalOf joinedDayOf joinedDayOr (pos 0) (joinOf d t)
-    × Number joinRefusalOf joinedMicrosOf joinedMicrosOr 0 (joinOf d t)
-unfolding joinOf
-join-numbers d t = (
-  number NoJoin joinRefusalOf joinedDayOr (pos 0) (joinCases d t) _ (λ n. refl) (λ n old. refl) refl (λ old. refl) tt,
-  number NoJoin joinRefusalOf joinedMicrosOr 0 (joinCases d t) _ (λ n. refl) (λ n old. refl) refl (λ old. refl) tt,
-)
-
-phase-numbers : (d : ℤ) (m : ℕ) (k : Doodson)
-    → Number tide.tideRefusalOf tide.frequencyOf tide.frequencyOr zero64 (tide.tideOf d m k)
-    × Number tide.tideRefusalOf tide.phaseOf tide.phaseOr zero64 (tide.tideOf d m k)
-unfolding tide.tideOf
-phase-numbers d m k = (
-  number tideCase.NoTide tide.tideRefusalOf tide.frequencyOr zero64 (tide.tideCases d m k) _ (λ n. refl) (λ n old. refl) refl (λ old. refl) tt,
-  number tideCase.NoTide tide.tideRefusalOf tide.phaseOr zero64 (tide.tideCases d m k) _ (λ n. refl) (λ n old. refl) refl (λ old. refl) tt,
-)
-
-corrections-numbers : (d : ℤ) (m : ℕ)
-    → Number zonal.zonalRefusalOf zonal.ut1Of zonal.ut1Or (pos 0) (zonal.zonalOf d m)
-    × Number zonal.zonalRefusalOf zonal.lodOf zonal.lodOr (pos 0) (zonal.zonalOf d m)
-    × Number zonal.zonalRefusalOf zonal.rateOf zonal.rateOr (pos 0) (zonal.zonalOf d m)
-unfolding zonal.zonalOf
-corrections-numbers d m = (
-  number zonalCase.NoZonal zonal.zonalRefusalOf zonal.ut1Or (pos 0) (instantCases d m) _ (λ n. refl) (λ n old. refl) refl (λ old. refl) tt,
-  number zonalCase.NoZonal zonal.zonalRefusalOf zonal.lodOr (pos 0) (instantCases d m) _ (λ n. refl) (λ n old. refl) refl (λ old. refl) tt,
-  number zonalCase.NoZonal zonal.zonalRefusalOf zonal.rateOr (pos 0) (instantCases d m) _ (λ n. refl) (λ n old. refl) refl (λ old. refl) tt,
-)
-
-offsets-numbers : (d : ℤ) (m : ℕ)
-    → Number nutation.nutationRefusalOf nutation.xOf nutation.xOr (pos 0) (nutation.nutationOf d m)
-    × Number nutation.nutationRefusalOf nutation.yOf nutation.yOr (pos 0) (nutation.nutationOf d m)
-    × Number nutation.nutationRefusalOf nutation.uncertaintyOf nutation.uncertaintyOr 0 (nutation.nutationOf d m)
-unfolding nutation.nutationOf
-offsets-numbers d m = (
-  number nutationCase.NoNutation nutation.nutationRefusalOf nutation.xOr (pos 0) (instantCases d m) _ (λ n. refl) (λ n old. refl) refl (λ old. refl) tt,
-  number nutationCase.NoNutation nutation.nutationRefusalOf nutation.yOr (pos 0) (instantCases d m) _ (λ n. refl) (λ n old. refl) refl (λ old. refl) tt,
-  number nutationCase.NoNutation nutation.nutationRefusalOf nutation.uncertaintyOr 0 (instantCases d m) _ (λ n. refl) (λ n old. refl) refl (λ old. refl) tt,
-)
-
-read-numbers : (s : List ℕ)
-    → Number readRefusalOf recordDayOf recordDayOr (pos 0) (readOf s)
-    × Number readRefusalOf recordMicrosOf recordMicrosOr 0 (readOf s)
-    × Number readRefusalOf recordUt1Of recordUt1Or (pos 0) (readOf s)
-    × Number readRefusalOf recordLodOf recordLodOr (pos 0) (readOf s)
-    × Number readRefusalOf recordRateOf recordRateOr (pos 0) (readOf s)
-unfolding readOf
-read-numbers s = (
-  number NoRecord readRefusalOf recordDayOr (pos 0) (readCases s) _ (λ n. refl) (λ n old. refl) refl (λ old. refl) tt,
-  number NoRecord readRefusalOf recordMicrosOr 0 (readCases s) _ (λ n. refl) (λ n old. refl) refl (λ old. refl) tt,
-  number NoRecord readRefusalOf recordUt1Or (pos 0) (readCases s) _ (λ n. refl) (λ n old. refl) refl (λ old. refl) tt,
-  number NoRecord readRefusalOf recordLodOr (pos 0) (readCases s) _ (λ n. refl) (λ n old. refl) refl (λ old. refl) tt,
-  number NoRecord readRefusalOf recordRateOr (pos 0) (readCases s) _ (λ n. refl) (λ n old. refl) refl (λ old. refl) tt,
-)
+-- A number of a service's answer that is what stood there at every refusal, and at the answer a the answer's own. No case has the number 0, so that the
+-- refusal number tells which it is.
+module _ {A : Type 0} (refuse : ℕ → A) (refusal : A → ℕ) (cs : List Case) (a : A) (first : refusal (refusedOr refuse cs a) ≡ firstRefusal cs) (t : T (numbered cs)) where
+  number : {B : Type 0} (left : B → A → B) (zero : B) → ((n : ℕ) (old : B) → left old (refuse n) ≡ old) → ((old : B) → left old a ≡ left zero a)
+      → Number refusal (left zero) left zero (refusedOr refuse cs a)
+  number {B} left zero stays gives = record {
+    same = λ z old.
+        let p = none-answered refuse cs a (first-none cs t (sym first ∙ z)) in
+        ap (left old) p ∙ gives old ∙ sym (ap (left zero) p);
+    zeroed = λ h. refused h zero;
+    kept = refused;
+  }
+    where
+      refused : (refusal (refusedOr refuse cs a) ≡ 0 → ⊥) → (old : B) → left old (refusedOr refuse cs a) ≡ old
+      refused h old = ap (left old) (refused-first refuse cs a (λ z. h (first ∙ z))) ∙ stays (firstRefusal cs) old
 
 -- PROMISE. Demand 1: any input is answered.
 pub any-input-is-answered : AnyInputIsAnswered
-unfolding outside tide.allInRange
+unfolding outside tide.allInRange dayOf dateOf instantOf splitOf joinOf tide.tideOf zonal.zonalOf nutation.nutationOf readOf
 any-input-is-answered = record {
   date-to-day = date-to-day;
-  date-to-day-numbers = date-to-day-numbers;
+  date-to-day-numbers = λ y m d. number NoDay dateRefusalOf (dateCases y m d) _ (date-to-day y m d) tt dayNumberOr (pos 0) (λ _ _. refl) (λ _. refl);
   day-to-date = day-to-date;
-  day-to-date-numbers = day-to-date-numbers;
+  day-to-date-numbers = λ z. (
+    number NoDate dayRefusalOf (dayCases z) _ (day-to-date z) tt yearOr 0 (λ _ _. refl) (λ _. refl),
+    number NoDate dayRefusalOf (dayCases z) _ (day-to-date z) tt monthOr 0 (λ _ _. refl) (λ _. refl),
+    number NoDate dayRefusalOf (dayCases z) _ (day-to-date z) tt dayOfMonthOr 0 (λ _ _. refl) (λ _. refl),
+  );
   date-and-time = date-and-time;
-  date-and-time-numbers = date-and-time-numbers;
+  date-and-time-numbers = λ y m d h n s u. (
+    number NoInstant instantRefusalOf (dateCases y m d ++ timeCases h n s u) _ (date-and-time y m d h n s u) tt instantDayOr (pos 0) (λ _ _. refl) (λ _. refl),
+    number NoInstant instantRefusalOf (dateCases y m d ++ timeCases h n s u) _ (date-and-time y m d h n s u) tt instantMicrosOr 0 (λ _ _. refl) (λ _. refl),
+  );
   split = split;
-  split-numbers = split-numbers;
+  split-numbers = λ d m. (
+    number NoSplit splitRefusalOf (instantCases d m) _ (split d m) tt dayWordOr (pos 0) (λ _ _. refl) (λ _. refl),
+    number NoSplit splitRefusalOf (instantCases d m) _ (split d m) tt timeWordOr 0 (λ _ _. refl) (λ _. refl),
+  );
   join = join;
-  join-numbers = join-numbers;
+  join-numbers = λ d t. (
+    number NoJoin joinRefusalOf (joinCases d t) _ (join d t) tt joinedDayOr (pos 0) (λ _ _. refl) (λ _. refl),
+    number NoJoin joinRefusalOf (joinCases d t) _ (join d t) tt joinedMicrosOr 0 (λ _ _. refl) (λ _. refl),
+  );
   phase = phase;
-  phase-numbers = phase-numbers;
+  phase-numbers = λ d m k. (
+    number tideCase.NoTide tide.tideRefusalOf (tide.tideCases d m k) _ (phase d m k) tt tide.frequencyOr zero64 (λ _ _. refl) (λ _. refl),
+    number tideCase.NoTide tide.tideRefusalOf (tide.tideCases d m k) _ (phase d m k) tt tide.phaseOr zero64 (λ _ _. refl) (λ _. refl),
+  );
   corrections = corrections;
-  corrections-numbers = corrections-numbers;
+  corrections-numbers = λ d m. (
+    number zonalCase.NoZonal zonal.zonalRefusalOf (instantCases d m) _ (corrections d m) tt zonal.ut1Or (pos 0) (λ _ _. refl) (λ _. refl),
+    number zonalCase.NoZonal zonal.zonalRefusalOf (instantCases d m) _ (corrections d m) tt zonal.lodOr (pos 0) (λ _ _. refl) (λ _. refl),
+    number zonalCase.NoZonal zonal.zonalRefusalOf (instantCases d m) _ (corrections d m) tt zonal.rateOr (pos 0) (λ _ _. refl) (λ _. refl),
+  );
   offsets = offsets;
-  offsets-numbers = offsets-numbers;
+  offsets-numbers = λ d m. (
+    number nutationCase.NoNutation nutation.nutationRefusalOf (instantCases d m) _ (offsets d m) tt nutation.xOr (pos 0) (λ _ _. refl) (λ _. refl),
+    number nutationCase.NoNutation nutation.nutationRefusalOf (instantCases d m) _ (offsets d m) tt nutation.yOr (pos 0) (λ _ _. refl) (λ _. refl),
+    number nutationCase.NoNutation nutation.nutationRefusalOf (instantCases d m) _ (offsets d m) tt nutation.uncertaintyOr 0 (λ _ _. refl) (λ _. refl),
+  );
   record-write = write;
   record-write-keeps = kept.refused-unchanged;
   record-read = read;
-  record-read-numbers = read-numbers;
+  record-read-numbers = λ s. (
+    number NoRecord readRefusalOf (readCases s) _ (read s) tt recordDayOr (pos 0) (λ _ _. refl) (λ _. refl),
+    number NoRecord readRefusalOf (readCases s) _ (read s) tt recordMicrosOr 0 (λ _ _. refl) (λ _. refl),
+    number NoRecord readRefusalOf (readCases s) _ (read s) tt recordUt1Or (pos 0) (λ _ _. refl) (λ _. refl),
+    number NoRecord readRefusalOf (readCases s) _ (read s) tt recordLodOr (pos 0) (λ _ _. refl) (λ _. refl),
+    number NoRecord readRefusalOf (readCases s) _ (read s) tt recordRateOr (pos 0) (λ _ _. refl) (λ _. refl),
+  );
   run-write = run;
   run-write-keeps = records.refused-unchanged;
 }

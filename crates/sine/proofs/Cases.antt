@@ -21,22 +21,22 @@ no-is : (b : Bool) (x y : ℤ) → (T b → ⊥) → cond b x y ≡ y
 no-is true x y f = absurd (f tt)
 no-is false x y f = refl
 
-pub half-low : (a v : ℕ) → a ≤ 2 ^ 39 → v ≡ sineQuarter (a / 2 ^ 9) → pos v ≡ halfTurn quarterTurn (2 ^ 41) a
+half-low : (a v : ℕ) → a ≤ 2 ^ 39 → v ≡ sineQuarter (a / 2 ^ 9) → pos v ≡ halfTurn quarterTurn (2 ^ 41) a
 unfolding quarterTurn
 half-low a v h e = ap pos e ∙ sym (yes-is (leb (4 * a) (2 ^ 41)) (quarterTurn a) (quarterTurn (2 ^ 41 / 2 - a)) (le→leb (4 * a) (2 ^ 41) (omega arith)))
 
-pub half-high : (a v : ℕ) → 2 ^ 39 < a → v ≡ sineQuarter ((2 ^ 40 - a) / 2 ^ 9) → pos v ≡ halfTurn quarterTurn (2 ^ 41) a
+half-high : (a v : ℕ) → 2 ^ 39 < a → v ≡ sineQuarter ((2 ^ 40 - a) / 2 ^ 9) → pos v ≡ halfTurn quarterTurn (2 ^ 41) a
 unfolding quarterTurn
 half-high a v h e = ap pos e ∙ sym (no-is (leb (4 * a) (2 ^ 41)) (quarterTurn a) (quarterTurn (2 ^ 41 / 2 - a)) (λ t. over (leb→le (4 * a) (2 ^ 41) t)))
   where
     over : 4 * a ≤ 2 ^ 41 → ⊥
     over k = omega arith
 
-pub whole-low : (a : ℕ) → a ≤ 2 ^ 40 → halfTurn quarterTurn (2 ^ 41) a ≡ ourSine a
+whole-low : (a : ℕ) → a ≤ 2 ^ 40 → halfTurn quarterTurn (2 ^ 41) a ≡ ourSine a
 unfolding ourSine wholeTurn
 whole-low a h = sym (yes-is (leb (2 * a) (2 ^ 41)) (halfTurn quarterTurn (2 ^ 41) a) (negℤ (halfTurn quarterTurn (2 ^ 41) (a - 2 ^ 41 / 2))) (le→leb (2 * a) (2 ^ 41) (omega arith)))
 
-pub whole-high : (a : ℕ) → 2 ^ 40 < a → negℤ (halfTurn quarterTurn (2 ^ 41) (a - 2 ^ 40)) ≡ ourSine a
+whole-high : (a : ℕ) → 2 ^ 40 < a → negℤ (halfTurn quarterTurn (2 ^ 41) (a - 2 ^ 40)) ≡ ourSine a
 unfolding ourSine wholeTurn
 whole-high a h = sym (no-is (leb (2 * a) (2 ^ 41)) (halfTurn quarterTurn (2 ^ 41) a) (negℤ (halfTurn quarterTurn (2 ^ 41) (a - 2 ^ 41 / 2))) (λ t. over (leb→le (2 * a) (2 ^ 41) t)))
   where

@@ -1,7 +1,7 @@
 // The sine and the cosine in 64-bit whole numbers. An angle is in units of 2^-41 turn, and whole turns are removed; an answer is in units of 2^-31.
 // Their distance from the exact sine and cosine is proved in proofs/Distance.antt.
 ghost use mathlib.Core.Path.{_≡_};
-ghost use Prim.Native.Nat.{_+_, _-_, _*_, _/_, _%_, _^_, _≤_, _<_};
+ghost use Prim.Native.Nat.{_-_, _*_, _/_, _%_, _^_, _≤_, _<_};
 ghost use lib.IntN.{pos, negℤ};
 ghost use Rattle.sine.specs.Ours.{sineQuarter, ourSine, ourCosine};
 ghost use Rattle.sine.specs.Inner.{Reduced};

@@ -1,7 +1,7 @@
 -- `enfysgar::tide_calls::enfys_tide_frequency` meets its contract. Assumes nothing.
 use lib.Ieee.{ofBits}
-use mir.Facts.{toZ-ofZ}
 use borrow.Author.Needs.{needs}
+use Rattle.tide.proofs.Signed.{asked-back}
 use Rattle.enfysgar.proofs.tide_calls.enfys_tide_frequency.Statement.{statement}
 use Rattle.enfysgar.proofs.tide_calls.enfys_tide_frequency.Tie as tie
 
@@ -10,5 +10,5 @@ unfolding ofBits
 enfys-tide-frequency-spec =
     tie.close
     (tie.spec (λ c κs. tt) (λ c. search needs) (λ c. search needs)
-    (λ c. let v = c .before in let s = v .before .before in let h = s .before .fits in rw (← toZ-ofZ (h .day), ← toZ-ofZ (h .k1), ← toZ-ofZ (h .k2), ← toZ-ofZ (h .k3), ← toZ-ofZ (h .k4), ← toZ-ofZ (h .k5), ← toZ-ofZ (h .k6), ← s .tide-of .ensures, v .x .given .1) (search needs))
-    (λ c. let s = c .before .before in let h = s .before .fits in rw (← toZ-ofZ (h .day), ← toZ-ofZ (h .k1), ← toZ-ofZ (h .k2), ← toZ-ofZ (h .k3), ← toZ-ofZ (h .k4), ← toZ-ofZ (h .k5), ← toZ-ofZ (h .k6), ← s .tide-of .ensures, c .enum-told .given .1) (search needs)))
+    (λ c. let v = c .before in let s = v .before .before in let h = s .before .fits in rw (← asked-back (s .before .args .micros) (h .day) (h .k1) (h .k2) (h .k3) (h .k4) (h .k5) (h .k6), ← s .tide-of .ensures, v .x .given .1) (search needs))
+    (λ c. let s = c .before .before in let h = s .before .fits in rw (← asked-back (s .before .args .micros) (h .day) (h .k1) (h .k2) (h .k3) (h .k4) (h .k5) (h .k6), ← s .tide-of .ensures, c .enum-told .given .1) (search needs)))
