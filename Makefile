@@ -3,7 +3,7 @@
 #   make demo                a day of corrections, readable
 #   make test                the whole gate
 #   make examples            the example daemon, held to its stored output
-#   make bench               times against plain C
+#   make bench               times against plain C, and ERFA where it is installed; status 1 above a limit
 #   make install PREFIX=..   header, archive, program, pkg-config file, manual page, notice, licence, rules, differences, changes
 #                            and the source of the routines; PREFIX has no spaces
 #   make version             the version, which the header has too

@@ -1,7 +1,7 @@
 /*
- * Times the library's calls beside plain C (tests/model*.c, with libm's sine and cosine), and beside
- * ERFA where it is installed (WITH_ERFA), in one process on the same inputs. A row whose ratio is above
- * the most that is allowed for it is marked, and the status is 1.
+ * Times the library's calls beside plain C (tests/model*.c, with libm's sine and cosine, and a date of
+ * its own below), and beside ERFA where it is installed (WITH_ERFA), in one process on the same inputs.
+ * A row whose ratio is above the most that is allowed for it is marked, and the status is 1.
  */
 #define _POSIX_C_SOURCE 199309L
 #include "../include/enfysgar.h"
@@ -233,8 +233,10 @@ static struct row {
 
 #define ROWS (sizeof rows / sizeof *rows)
 
-/* Short rounds of a row, the two sides taking turns, so that both meet the same conditions. The best time of each is
- * kept. */
+/*
+ * Short rounds of a row, the two sides taking turns, so that both meet the same conditions. The best
+ * time of each is kept.
+ */
 static void rounds_of(struct row *r)
 {
     int batch = 1 + (int)(300000.0 / (time_of(r->ours, 16) + time_of(r->other, 16)));
@@ -271,10 +273,10 @@ int main(void)
         struct date x = date_plain_of(at[i].day), y;
 
         model_date_of_day(at[i].day, &y);
-        if (x.year != y.year || x.month != y.month || x.day != y.day)
-            return 1;
-        if (written(i) != 0) /* for the rows that read */
-            return 1;
+        if (x.year != y.year || x.month != y.month || x.day != y.day || written(i) != 0) {
+            fprintf(stderr, "bench: the plain date is wrong, or a record was not written\n");
+            return 2;
+        }
     }
     /* Several passes over all rows, so that what else the machine does for some seconds spoils no row. */
     for (int pass = 0; pass < PASSES; pass++)

@@ -38,7 +38,7 @@ static const char *text(uint32_t refusal)
     return refusal < sizeof meaning / sizeof *meaning ? meaning[refusal] : "unknown to this program";
 }
 
-/* Says why a call refused. */
+/* 1 where a call refused, and says why. */
 static int refused(uint32_t refusal)
 {
     if (refusal != ENFYS_OK)

@@ -1,9 +1,8 @@
--- Demand 1: any input is answered. Each service is refused by the first number of its list that applies, and by nothing else. Beside a refusal every
--- other number is 0, no lent byte changes, and the call of the whole answer leaves every number as it stood; without one it leaves the numbers that
--- their own calls give. That each exported call gives these numbers for every input is its contract
--- (crates/enfysgar/src). The rules are written out here a second time, with their figures and apart from the lists and limits of the definitions (the
--- length of a month, the mark, numbers and sums in bytes and a later day are theirs): first when each number is given, then for each service its
--- numbers in their order.
+-- Demand 1: any input is answered. Each service is refused by the first refusal number of its list that applies, and by nothing else. Beside a refusal
+-- the call of one number gives 0, the call of the whole answer leaves every number as it stood, and no lent byte changes; without one the whole answer
+-- leaves the numbers that their own calls give. That each exported call gives these for every input is its contract (crates/enfysgar/src).
+-- The rules are written out here a second time, with their figures and apart from the lists and limits of the definitions (the length of a month, the
+-- mark, numbers and sums in bytes and a later day are theirs): first when each refusal is given, then for each service its refusals in their order.
 use Prim.Native.Nat.{ℕ, _-_, _*_, _/_, _%_}
 use mathlib.Core.Path.{_≡_}
 use mathlib.Core.Bool.{Bool, not, _&&_, _||_}

@@ -47,7 +47,8 @@ pub record Exactness : Type 0 where
   -- one day, and then give the moment of the time word
   pub joined-exactly : (d e : ℤ) (k m : ℕ) → IsAccepted d k → IsAccepted e m → natAbs (d -ℤ e) < 8
       → (d ≡ e → joinOf d (timeWord e m) ≡ Joined (instant e m)) × ((d ≡ e → ⊥) → joinOf d (timeWord e m) ≡ NoJoin 10)
-  -- (d) the frequency is a finite number, the phase is at least 0 and below 360, and six zero multipliers give +0 and +0
+  -- (d) as the calls of one number give them: the frequency is a finite number, the phase is at least 0 and below 360, and six zero multipliers give
+  -- +0 and +0
   pub frequency-finite : (d : ℤ) (m : ℕ) (k : Doodson) → Finite (frequencyOf (tideOf d m k))
   pub phase-in-turn : (d : ℤ) (m : ℕ) (k : Doodson) → InTurn (phaseOf (tideOf d m k))
   pub zeros-give-zero : (d : ℤ) (m : ℕ) → IsAccepted d m
