@@ -17,7 +17,7 @@ pub extern "C" fn enfys_day_of_date(year: u64, month: u64, day_of_month: u64, da
             *day = d;
             0
         }
-        DayAnswer::NoDay(n) => n,
+        DayAnswer::NoDay(refusal) => refusal,
     }
 }
 
@@ -63,7 +63,7 @@ pub extern "C" fn enfys_date_of_day(
             *day_of_month = t.day;
             0
         }
-        DateAnswer::NoDate(n) => n,
+        DateAnswer::NoDate(refusal) => refusal,
     }
 }
 
@@ -135,7 +135,7 @@ pub extern "C" fn enfys_instant(
             *micros = t.micros;
             0
         }
-        InstantAnswer::NoInstant(n) => n,
+        InstantAnswer::NoInstant(refusal) => refusal,
     }
 }
 

@@ -18,7 +18,7 @@ pub extern "C" fn enfys_split(day: i64, micros: u64, day_word: &mut i64, time_wo
             *time_word = w.time;
             0
         }
-        SplitAnswer::NoSplit(n) => n,
+        SplitAnswer::NoSplit(refusal) => refusal,
     }
 }
 
@@ -69,7 +69,7 @@ pub extern "C" fn enfys_join(day_word: i64, time_word: u64, day: &mut i64, micro
             *micros = t.micros;
             0
         }
-        JoinAnswer::NoJoin(n) => n,
+        JoinAnswer::NoJoin(refusal) => refusal,
     }
 }
 

@@ -26,7 +26,7 @@ pub extern "C" fn enfys_nutation(
             *uncertainty = o.uncertainty;
             0
         }
-        NutationAnswer::NoNutation(n) => n,
+        NutationAnswer::NoNutation(refusal) => refusal,
     }
 }
 

@@ -50,7 +50,7 @@ pub extern "C" fn enfys_record_read(
             *rate = r;
             0
         }
-        ReadAnswer::NoRecord(n) => n,
+        ReadAnswer::NoRecord(refusal) => refusal,
     }
 }
 

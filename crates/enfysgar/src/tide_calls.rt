@@ -36,7 +36,7 @@ pub extern "C" fn enfys_tide(
             *phase = x.phase;
             0
         }
-        TideAnswer::NoTide(n) => n,
+        TideAnswer::NoTide(refusal) => refusal,
     }
 }
 

@@ -27,7 +27,7 @@ pub extern "C" fn enfys_zonal(
             *rate = r;
             0
         }
-        ZonalAnswer::NoZonal(n) => n,
+        ZonalAnswer::NoZonal(refusal) => refusal,
     }
 }
 

@@ -8,4 +8,4 @@ enfys-instant-spec =
     tie.close
     (tie.spec (λ c κs. tt) (λ c. search needs) (λ c. search needs)
     (λ c. let v = c .before .before in let s = v .before .before in rw (← s .instant-of .ensures, v .t .given .1) (search needs))
-    (λ c. let v = c .before in let s = v .before .before in rw (← s .instant-of .ensures, v .n .given .1) (search needs)))
+    (λ c. let v = c .before in let s = v .before .before in rw (← s .instant-of .ensures, v .refusal .given .1) (search needs)))

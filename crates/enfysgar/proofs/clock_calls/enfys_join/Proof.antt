@@ -9,4 +9,4 @@ enfys-join-spec =
     tie.close
     (tie.spec (λ c κs. tt) (λ c. search needs) (λ c. search needs)
     (λ c. let v = c .before .before in let s = v .before .before in rw (← toZ-ofZ (s .before .fits .day-word), ← s .join .ensures, v .t .given .1) (search needs))
-    (λ c. let v = c .before in let s = v .before .before in rw (← toZ-ofZ (s .before .fits .day-word), ← s .join .ensures, v .n .given .1) (search needs)))
+    (λ c. let v = c .before in let s = v .before .before in rw (← toZ-ofZ (s .before .fits .day-word), ← s .join .ensures, v .refusal .given .1) (search needs)))

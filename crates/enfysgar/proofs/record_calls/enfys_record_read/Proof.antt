@@ -11,4 +11,4 @@ enfys-record-read-spec =
     (tie.spec (λ c κs. tt) (λ c. search needs) (λ c. search needs)
     (λ c. let v = c .before .before .before .before .before in let s = v .before .before in rw (← s .read .ensures, v .t .given .1)
     (refl, (toZ-ofZ (search needs), (refl, (toZ-ofZ (search needs), (toZ-ofZ (search needs), toZ-ofZ (search needs)))))))
-    (λ c. let v = c .before in let s = v .before .before in rw (← s .read .ensures, v .n .given .1) (refl, (refl, (refl, (refl, (refl, refl)))))))
+    (λ c. let v = c .before in let s = v .before .before in rw (← s .read .ensures, v .refusal .given .1) (refl, (refl, (refl, (refl, (refl, refl)))))))
