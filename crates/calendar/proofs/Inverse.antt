@@ -10,12 +10,14 @@ use lib.IntN.{ℤ, pos, _+ℤ_, natAbs, +ℤ-assoc, +ℤ-comm}
 use borrow.Author.Tests.{le-ltb}
 use Rattle.instants.proofs.Impossible.{impossible}
 use Rattle.instants.proofs.FirstRefusal.{NoneApplies, none-answered, answered-none}
+use Rattle.instants.specs.declared.Acceptance.the-variants.{Accepted, NotAccepted}
 use Rattle.calendar.specs.declared.Date.{Date}
 use Rattle.calendar.specs.declared.DayAnswer.the-variants.{Day, NoDay}
 use Rattle.calendar.specs.declared.DateAnswer.the-variants.{OnDate, NoDate}
 use Rattle.calendar.specs.Limits.{firstYear, lastYear}
 use Rattle.instants.specs.Instants.{outside, dayIndex, dayAtIndex}
 use Rattle.calendar.specs.Dates.{monthLength, daysOfYears, dateIndex, next, dateAfter, date, dateCases, dayOf, dayCases, dateOf}
+use Rattle.calendar.specs.Inner.{dateAcceptance}
 use Rattle.calendar.proofs.Dates.{Valid, Found, after, after-index, index-low, index-high, years-apart}
 use Rattle.instants.proofs.Signs.{index-up, day-natural, firstIndex, lastIndex}
 use Rattle.instants.proofs.Accepted.{HasIndex, between, inside-index}
@@ -73,6 +75,23 @@ index-range y m d a = (
   omega (arith, index-low (date y m d), years-from firstYear y (omega arith) (a .from), years-first),
   omega (arith, index-high (date y m d) (valid y m d a), years-apart y (suc lastYear) (omega (arith, a .from)) (omega (arith, a .to)), years-end),
 )
+
+-- What holds of a date that was accepted by its index i.
+pub record DateAt (y m d i : ℕ) : Type 0 where
+  pub accepted : AcceptedDate y m d
+  pub index : dateIndex (date y m d) ≡ i
+  pub low : firstIndex ≤ i
+  pub high : i ≤ lastIndex
+
+pub date-at : (y m d i : ℕ) → dateAcceptance y m d ≡ Accepted i → DateAt y m d i
+unfolding dateAcceptance
+date-at y m d i e =
+    let r = answered-none NotAccepted (dateCases y m d) _ (Accepted i) (λ n p. impossible (cc)) e in
+    let g : Accepted (dateIndex (date y m d)) ≡ Accepted i = r .1 in
+    let f : dateIndex (date y m d) ≡ i = cc in
+    let a : AcceptedDate y m d = none-date y m d (r .0) in
+    let b = index-range y m d a in
+    record { accepted = a; index = f; low = omega (arith, b .0, f); high = omega (arith, b .1, f) }
 
 -- the number of an index in range is in range, and has that index
 number-pos : (n : ℕ) → firstIndex ≤ n → dayAtIndex n ≡ pos (n - indexOffset)

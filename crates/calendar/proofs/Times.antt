@@ -25,8 +25,8 @@ pub instant-accepted : (y m d h n s u : ℕ) (t : Instant) → instantOf y m d h
 unfolding instantOf dayOf
 instant-accepted y m d h n s u t e =
     let z = dayAtIndex (dateIndex (date y m d)) in
-    let r = answered-none NoInstant (dateCases y m d ++ timeCases h n s u) (AtInstant (instant z (microsOfTime h n s u))) (AtInstant t) (λ n p. impossible (cc)) e in
-    let q = none-both (dateCases y m d) (timeCases h n s u) (r .0) in
+    let r = answered-none NoInstant (dateCases y m d ++ timeCases 59 h n s u) (AtInstant (instant z (microsOfTime h n s u))) (AtInstant t) (λ n p. impossible (cc)) e in
+    let q = none-both (dateCases y m d) (timeCases 59 h n s u) (r .0) in
     let g : AtInstant (instant z (microsOfTime h n s u)) ≡ AtInstant t = r .1 in
     let i : instant z (microsOfTime h n s u) ≡ t = cc in
     let f : dayOf y m d ≡ Day z = none-answered NoDay (dateCases y m d) (Day z) (q .0) in

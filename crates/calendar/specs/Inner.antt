@@ -3,23 +3,25 @@ use Prim.Native.Nat.{ℕ, _+_, _-_, _*_, _≤_, _<_}
 use mathlib.Core.Path.{_≡_}
 use mathlib.Core.Bool.{cond}
 use lib.Dec.{ltb}
-use lib.IntN.{ℤ}
 use Rattle.instants.specs.Refusals.{refusedOr}
-use Rattle.instants.specs.Instants.{instant}
-use Rattle.calendar.specs.Dates.{leapYear, daysOfYears}
+use Rattle.instants.specs.declared.Acceptance.{Acceptance}
+use Rattle.instants.specs.declared.Acceptance.the-variants.{Accepted, NotAccepted}
+use Rattle.calendar.specs.Dates.{date, leapYear, daysOfYears, dateIndex, dateCases}
 use Rattle.calendar.specs.Times.{microsOfTime, timeCases}
-use Rattle.calendar.specs.declared.InstantAnswer.{InstantAnswer}
-use Rattle.calendar.specs.declared.InstantAnswer.the-variants.{AtInstant, NoInstant}
 use Rattle.calendar.specs.declared.YearDay.{YearDay}
 
 -- a leap year's extra day
 unfoldable pub leapDay : ℕ → ℕ
 leapDay y = cond (leapYear y) 1 0
 
--- the instant of a time on the day d, or the time's refusal
-unfoldable pub timeOf : ℤ → (hour minute second microsecond : ℕ) → InstantAnswer
-timeOf d hour minute second microsecond =
-    refusedOr NoInstant (timeCases hour minute second microsecond) (AtInstant (instant d (microsOfTime hour minute second microsecond)))
+-- an accepted date's index, or its refusal
+unfoldable pub dateAcceptance : (y m d : ℕ) → Acceptance
+dateAcceptance y m d = refusedOr NotAccepted (dateCases y m d) (Accepted (dateIndex (date y m d)))
+
+-- the microseconds since 0 h of an accepted time, or its refusal
+unfoldable pub timeAcceptance : (last hour minute second microsecond : ℕ) → Acceptance
+timeAcceptance last hour minute second microsecond =
+    refusedOr NotAccepted (timeCases last hour minute second microsecond) (Accepted (microsOfTime hour minute second microsecond))
 
 -- the day e of a year, counted from 0, in twelfths of a day, where 367 count as a month: from 367 on, and 6 more to round; with thirty days for February
 abbrev pub twelfthsAt : ℕ → ℕ → ℕ

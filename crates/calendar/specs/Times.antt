@@ -14,14 +14,14 @@ use Rattle.calendar.specs.declared.InstantAnswer.the-variants.{AtInstant
 abbrev pub microsOfTime : ℕ → ℕ → ℕ → ℕ → ℕ
 microsOfTime hour minute second microsecond = ((hour * 60 + minute) * 60 + second) * secondMicros + microsecond
 
--- the refusals of a time of day
-abbrev pub timeCases : (hour minute second microsecond : ℕ) → List Case
-timeCases hour minute second microsecond = case 4 (ltb 23 hour) ∷ case 5 (ltb 59 minute) ∷ case 6 (ltb 59 second) ∷ case 7 (ltb 999_999 microsecond) ∷ []
+-- the refusals of a time of day, in a minute whose last second is `last`
+abbrev pub timeCases : (last hour minute second microsecond : ℕ) → List Case
+timeCases last hour minute second microsecond = case 4 (ltb 23 hour) ∷ case 5 (ltb 59 minute) ∷ case 6 (ltb last second) ∷ case 7 (ltb 999_999 microsecond) ∷ []
 
 -- the instant of a date and a time, or its refusal: the date's come first
 unfoldable pub instantOf : (year month day hour minute second microsecond : ℕ) → InstantAnswer
 instantOf year month day hour minute second microsecond =
-    refusedOr NoInstant (dateCases year month day ++ timeCases hour minute second microsecond)
+    refusedOr NoInstant (dateCases year month day ++ timeCases 59 hour minute second microsecond)
     (AtInstant (instant (dayAtIndex (dateIndex (date year month day))) (microsOfTime hour minute second microsecond)))
 
 -- the numbers of an answer, or z where it is a refusal: what the call of the whole answer leaves where z was

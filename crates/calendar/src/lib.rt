@@ -1,4 +1,5 @@
 // Dates and day numbers (MJD), and times of day.
+use instants::Acceptance;
 use instants::IndexAnswer;
 use instants::Instant;
 ghost use mathlib.Core.Path.{_≡_};
@@ -6,7 +7,7 @@ ghost use Prim.Native.Nat.{_+_, _≤_, _<_};
 ghost use Rattle.instants.specs.Inner.{indexLimit};
 ghost use Rattle.calendar.specs.Dates.{monthLength, daysOfYears, daysBefore, dateAfter, dayOf, dateOf};
 ghost use Rattle.calendar.specs.Times.{instantOf};
-ghost use Rattle.calendar.specs.Inner.{leapDay, timeOf, twelfthsAt, IsYearDay};
+ghost use Rattle.calendar.specs.Inner.{leapDay, dateAcceptance, timeAcceptance, twelfthsAt, IsYearDay};
 
 // The years of a date.
 const FIRST_YEAR: u64 = 1900;
@@ -110,20 +111,31 @@ fn before(y: u64, m: u64) -> u64
     BEFORE[i] + leap(y)
 }
 
+// The index of an accepted date, or refusal 1, 2 or 3.
+pub fn accept_date(year: u64, month: u64, day: u64) -> Acceptance
+    ensures { λ r. ⌜ r ≡ dateAcceptance year month day ⌝ }
+{
+    if (year < FIRST_YEAR) | (LAST_YEAR < year) {
+        return Acceptance::NotAccepted(1);
+    }
+    if (month < 1) | (12 < month) {
+        return Acceptance::NotAccepted(2);
+    }
+    if (day < 1) | (month_length(year, month) < day) {
+        return Acceptance::NotAccepted(3);
+    }
+    let n = years(year - 1600) + before(year, month) + (day - 1);
+    Acceptance::Accepted(n)
+}
+
 // The day number of a date, or refusal 1, 2 or 3.
 pub fn day_of(year: u64, month: u64, day: u64) -> DayAnswer
     ensures { λ r. ⌜ r ≡ dayOf year month day ⌝ }
 {
-    if (year < FIRST_YEAR) | (LAST_YEAR < year) {
-        return DayAnswer::NoDay(1);
+    match accept_date(year, month, day) {
+        Acceptance::NotAccepted(n) => DayAnswer::NoDay(n),
+        Acceptance::Accepted(i) => DayAnswer::Day(instants::day_at_index(i)),
     }
-    if (month < 1) | (12 < month) {
-        return DayAnswer::NoDay(2);
-    }
-    if (day < 1) | (month_length(year, month) < day) {
-        return DayAnswer::NoDay(3);
-    }
-    DayAnswer::Day(instants::day_at_index(years(year - 1600) + before(year, month) + (day - 1)))
 }
 
 // The day e of a year, counted from 0, in twelfths of a day. With thirty days for February the twelve months have 367 days, so 367 twelfths count as a
@@ -156,7 +168,7 @@ fn year_day(n: u64) -> YearDay
 }
 
 // The date n days after 1600-01-01.
-fn date_after(n: u64) -> Date
+pub fn date_after(n: u64) -> Date
     requires { ⌜ n < indexLimit ⌝ }
     ensures { λ r. ⌜ r ≡ dateAfter n ⌝ }
 {
@@ -179,26 +191,25 @@ pub fn date_of(day: i64) -> DateAnswer
     }
 }
 
-// The instant of a time on a day, or refusal 4, 5, 6 or 7.
-fn time_of(day: i64, hour: u64, minute: u64, second: u64, microsecond: u64) -> InstantAnswer
-    ensures { λ r. ⌜ r ≡ timeOf day hour minute second microsecond ⌝ }
+// The microseconds since 0 h of an accepted time of day, in a minute whose last second is `last`, or refusal 4, 5, 6 or 7.
+pub fn accept_time(last: u64, hour: u64, minute: u64, second: u64, microsecond: u64) -> Acceptance
+    requires { ⌜ last ≤ 60 ⌝ }
+    ensures { λ r. ⌜ r ≡ timeAcceptance last hour minute second microsecond ⌝ }
 {
     if 23 < hour {
-        return InstantAnswer::NoInstant(4);
+        return Acceptance::NotAccepted(4);
     }
     if 59 < minute {
-        return InstantAnswer::NoInstant(5);
+        return Acceptance::NotAccepted(5);
     }
-    if 59 < second {
-        return InstantAnswer::NoInstant(6);
+    if last < second {
+        return Acceptance::NotAccepted(6);
     }
     if 999999 < microsecond {
-        return InstantAnswer::NoInstant(7);
+        return Acceptance::NotAccepted(7);
     }
-    InstantAnswer::AtInstant(Instant {
-        day: day,
-        micros: ((hour * 60 + minute) * 60 + second) * SECOND_MICROS + microsecond,
-    })
+    let micros = ((hour * 60 + minute) * 60 + second) * SECOND_MICROS + microsecond;
+    Acceptance::Accepted(micros)
 }
 
 // The instant of a date and a time of day, or refusal 1 to 7.
@@ -213,8 +224,14 @@ pub fn instant_of(
 ) -> InstantAnswer
     ensures { λ r. ⌜ r ≡ instantOf year month day hour minute second microsecond ⌝ }
 {
-    match day_of(year, month, day) {
-        DayAnswer::NoDay(n) => InstantAnswer::NoInstant(n),
-        DayAnswer::Day(d) => time_of(d, hour, minute, second, microsecond),
+    match accept_date(year, month, day) {
+        Acceptance::NotAccepted(n) => InstantAnswer::NoInstant(n),
+        Acceptance::Accepted(i) => match accept_time(59, hour, minute, second, microsecond) {
+            Acceptance::NotAccepted(k) => InstantAnswer::NoInstant(k),
+            Acceptance::Accepted(u) => InstantAnswer::AtInstant(Instant {
+                day: instants::day_at_index(i),
+                micros: u,
+            }),
+        },
     }
 }

@@ -37,7 +37,7 @@ pub enum IndexAnswer {
     NoIndex,
 }
 
-// The index of an accepted instant's day, or refusal 8 or 9.
+// What was accepted, as a number (of an instant or a date, the index of its day), or the refusal number.
 pub enum Acceptance {
     Accepted(u64),
     NotAccepted(u32),

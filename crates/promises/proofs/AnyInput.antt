@@ -41,9 +41,9 @@ day-to-date : (z : ℤ) → dayRefusalOf (dateOf z) ≡ firstRefusal (dayCases z
 unfolding dateOf
 day-to-date z = handed-on NoDate dayRefusalOf (λ n. refl) (dayCases z) _
 
-date-and-time : (y m d h n s u : ℕ) → instantRefusalOf (instantOf y m d h n s u) ≡ firstRefusal (dateCases y m d ++ timeCases h n s u)
+date-and-time : (y m d h n s u : ℕ) → instantRefusalOf (instantOf y m d h n s u) ≡ firstRefusal (dateCases y m d ++ timeCases 59 h n s u)
 unfolding instantOf
-date-and-time y m d h n s u = handed-on NoInstant instantRefusalOf (λ n. refl) (dateCases y m d ++ timeCases h n s u) _
+date-and-time y m d h n s u = handed-on NoInstant instantRefusalOf (λ n. refl) (dateCases y m d ++ timeCases 59 h n s u) _
 
 split : (d : ℤ) (m : ℕ) → splitRefusalOf (splitOf d m) ≡ firstRefusal (instantCases d m)
 unfolding splitOf
@@ -109,8 +109,8 @@ any-input-is-answered = record {
   );
   date-and-time = date-and-time;
   date-and-time-numbers = λ y m d h n s u. (
-    number NoInstant instantRefusalOf (dateCases y m d ++ timeCases h n s u) _ (date-and-time y m d h n s u) tt instantDayOr (pos 0) (λ _ _. refl) (λ _. refl),
-    number NoInstant instantRefusalOf (dateCases y m d ++ timeCases h n s u) _ (date-and-time y m d h n s u) tt instantMicrosOr 0 (λ _ _. refl) (λ _. refl),
+    number NoInstant instantRefusalOf (dateCases y m d ++ timeCases 59 h n s u) _ (date-and-time y m d h n s u) tt instantDayOr (pos 0) (λ _ _. refl) (λ _. refl),
+    number NoInstant instantRefusalOf (dateCases y m d ++ timeCases 59 h n s u) _ (date-and-time y m d h n s u) tt instantMicrosOr 0 (λ _ _. refl) (λ _. refl),
   );
   split = split;
   split-numbers = λ d m. (

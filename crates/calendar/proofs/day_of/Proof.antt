@@ -1,104 +1,45 @@
--- `calendar::day_of` meets its contract. The three tests of the code are the cases of the definition in their order; a date that passes them has
--- the index that years, months and days add up to. Assumes nothing.
-use Prim.Native.Nat.{_+_, _-_, _<_, _≤_}
-use mathlib.Core.Path.{_≡_, _∙_, ap}
+-- `calendar::day_of` meets its contract: a date is refused by the same cases as its index, and an accepted one has the day number of that index.
+-- Assumes nothing.
+use Prim.Native.Nat.{ℕ}
+use mathlib.Core.Path.{_≡_, refl, _∙_, ap, sym}
 use native.Mathlib.Omega.{arith}
-use borrow.Author.Needs.{needs}
 use mir.Facts.{toZ-ofZ}
 use Rattle.instants.specs.Instants.{dayAtIndex}
-use Rattle.instants.proofs.Accepted.{between}
-use Rattle.calendar.specs.declared.DayAnswer.the-variants.{Day}
-use Rattle.calendar.specs.Limits.{firstYear, lastYear}
-use Rattle.calendar.specs.Dates.{date, dayOf, dateIndex}
+use Rattle.instants.specs.declared.Acceptance.{Acceptance}
+use Rattle.instants.specs.declared.Acceptance.the-variants.{Accepted, NotAccepted}
+use Rattle.instants.proofs.FirstRefusal.{handed-on}
+use Rattle.calendar.specs.declared.DayAnswer.{DayAnswer}
+use Rattle.calendar.specs.declared.DayAnswer.the-variants.{Day, NoDay}
+use Rattle.calendar.specs.Dates.{dateCases, dayOf}
+use Rattle.calendar.specs.Inner.{dateAcceptance}
+use Rattle.calendar.proofs.Inverse.{date-at}
+use borrow.Author.Needs.{needs}
 use Rattle.calendar.proofs.day_of.Statement.{statement}
 use Rattle.calendar.proofs.day_of.Tie as tie
 
-returns : tie.Need-returns
-unfolding dayOf
-returns c = simp (c .if1 .taken)
+-- the match of the code
+abbrev dayBy : Acceptance → DayAnswer
+dayBy (Accepted i) = Day (dayAtIndex i)
+dayBy (NotAccepted n) = NoDay n
 
-returns-2 : tie.Need-returns-2
-unfolding dayOf
-returns-2 c = simp (c .before .if1 .left, c .if2 .taken)
-
--- ---- what the tests say where they are passed
-
-year-in : (c : tie.Else1) → (firstYear ≤ c .before .args .year) × (c .before .args .year ≤ lastYear)
-year-in c = between _ firstYear lastYear (c .if1 .left)
-
-abbrev entry : tie.Else2 → tie.Start
-entry c = c .before .before
-
-month-in : (c : tie.Else2) → (1 ≤ entry c .args .month) × (entry c .args .month ≤ 12)
-month-in c = between _ 1 12 (c .if2 .left)
-
--- past the month's test, from past the day's
-abbrev month-passed : tie.Else3 → tie.Else2
-month-passed c = c .before .before
-
-day-in : (c : tie.Else3) → (1 ≤ entry (month-passed c) .args .day) × (entry (month-passed c) .args .day < 32)
-day-in c =
-    let p = between _ 1 _ (c .if3 .left) in
-    (p .0, omega (arith, p .1, c .before .month-length .ensures .1))
-
--- past the day's test, from where all numbers are there
-abbrev passed : tie.After-before2 → tie.Else3
-passed c = c .before .before
-
-month-length-requires : tie.Need-month-length-requires
-month-length-requires c κs = month-in c
-
-returns-3 : tie.Need-returns-3
-unfolding dayOf
-returns-3 c =
-    let m = c .before .before in
-    simp (m .before .if1 .left, m .if2 .left, ← c .before .month-length .ensures .0, c .if3 .taken)
-
-sub-years : tie.Need-sub-years
-sub-years c = omega (arith, year-in (month-passed c .before) .0)
-
-years-requires : tie.Need-years-requires
-years-requires c κs = omega (arith, year-in (month-passed c .before) .1)
-
-before-requires : tie.Need-before-requires
-before-requires c κs = month-in (month-passed (c .before))
-
-add-day-at-index : tie.Need-add-day-at-index
-add-day-at-index c = search needs
-
-sub-day-at-index : tie.Need-sub-day-at-index
-sub-day-at-index c = day-in (passed c) .0
-
-add-day-at-index-2 : tie.Need-add-day-at-index-2
-add-day-at-index-2 c = omega (arith, day-in (passed c) .1)
+matched : (y m d : ℕ) → dayBy (dateAcceptance y m d) ≡ dayOf y m d
+unfolding dateAcceptance dayOf
+matched y m d = handed-on NotAccepted dayBy (λ k. refl) (dateCases y m d) _
 
 day-at-index-requires : tie.Need-day-at-index-requires
-day-at-index-requires c κs = omega (arith, day-in (passed c) .1)
+day-at-index-requires c κs =
+    let v = c .before in let s = v .before .before in
+    omega (arith, date-at _ _ _ _ (sym (s .accept-date .ensures) ∙ v .i .given .1) .high)
 
-returns-4 : tie.Need-returns-4
-unfolding dayOf dateIndex
-returns-4 c =
-    let d = passed (c .before) in
-    let m = month-passed d in
-    let a = entry m .args in
-    let b = c .before in
-    let n : b .before .years .result + b .before2 .result + (a .day - 1) ≡ dateIndex (date (a .year) (a .month) (a .day)) = simp (b .before .years .ensures .0, b .before2 .ensures .0) in
-    simp (m .before .if1 .left, m .if2 .left, ← d .before .month-length .ensures .0, d .if3 .left)
-    (ap Day (toZ-ofZ (search needs) ∙ (c .day-at-index .ensures ∙ ap dayAtIndex n)))
+returns : tie.Need-returns
+returns c = let v = c .before in let s = v .before .before in rw (← matched, ← s .accept-date .ensures, v .n .given .1)
+
+returns-2 : tie.Need-returns-2
+returns-2 c =
+    let v = c .before .before in let s = v .before .before in
+    rw (← matched, ← s .accept-date .ensures, v .i .given .1) (ap Day (toZ-ofZ (search needs) ∙ c .day-at-index .ensures))
 
 pub day-of-spec : {M : Type 1} → statement M
 day-of-spec =
     tie.close
-    (tie.spec
-    returns
-    returns-2
-    month-length-requires
-    returns-3
-    sub-years
-    years-requires
-    before-requires
-    add-day-at-index
-    sub-day-at-index
-    add-day-at-index-2
-    day-at-index-requires
-    returns-4)
+    (tie.spec (λ c κs. search needs) (λ c. search needs) (λ c. search needs) day-at-index-requires returns returns-2)
