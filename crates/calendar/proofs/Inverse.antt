@@ -1,8 +1,8 @@
 -- Dates and day numbers are inverse, and day numbers rise by one from a date to the next. A date is accepted exactly when its index is from that of
 -- 1900-01-01 to that of 2100-12-31, and there an index and a day number differ by the offset. Assumes nothing.
 use Prim.Native.Nat.{ℕ, suc, _+_, _-_, _≤_}
-use mathlib.Core.Path.{_≡_, ap, sym, _∙_, subst}
-use mathlib.Core.Bool.{false}
+use mathlib.Core.Path.{_≡_, refl, ap, sym, _∙_, subst}
+use mathlib.Core.Bool.{Bool, false, _||_}
 use native.Mathlib.Omega.{arith}
 use native.Mathlib.Decide.{decLe}
 use native.Mathlib.Numerals.{add-one}
@@ -43,12 +43,21 @@ accepted-day y m d a =
     simp (le-ltb y firstYear (a .from), le-ltb lastYear y (a .to), le-ltb m 1 (a .one), le-ltb 12 m (a .twelve), le-ltb d 1 (a .first), le-ltb (monthLength y m) d (a .last))
 
 -- no case of a date applies
-none-date : (y m d : ℕ) → NoneApplies (dateCases y m d) → AcceptedDate y m d
+pub none-date : (y m d : ℕ) → NoneApplies (dateCases y m d) → AcceptedDate y m d
 none-date y m d h =
     let p = between y firstYear lastYear (h .0) in
     let q = between m 1 12 (h .1 .0) in
     let r = between d 1 (monthLength y m) (h .1 .1 .0) in
     record { from = p .0; to = p .1; one = q .0; twelve = q .1; first = r .0; last = r .1 }
+
+pub date-none : (y m d : ℕ) → AcceptedDate y m d → NoneApplies (dateCases y m d)
+date-none y m d a = (
+  both (le-ltb y firstYear (a .from)) (le-ltb lastYear y (a .to)),
+  (both (le-ltb m 1 (a .one)) (le-ltb 12 m (a .twelve)), (both (le-ltb d 1 (a .first)) (le-ltb (monthLength y m) d (a .last)), tt)),
+)
+  where
+    both : {p q : Bool} → p ≡ false → q ≡ false → p || q ≡ false
+    both e f = rw (e, f) refl
 
 -- only an accepted date has a day number
 day-accepted : (y m d : ℕ) (z : ℤ) → dayOf y m d ≡ Day z → AcceptedDate y m d

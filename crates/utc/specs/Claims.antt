@@ -1,0 +1,35 @@
+-- The words of the promises on UTC: the table's rule, and the reading a second later.
+use Prim.Native.Nat.{ℕ, _+_, _-_}
+use mathlib.Core.Bool.{Bool, true, cond, _&&_}
+use mathlib.Core.List.{List, [], _∷_}
+use lib.Dec.{eqb, ltb}
+use lib.ListN.{length}
+use Rattle.calendar.specs.Dates.{date, dateIndex, next}
+use Rattle.utc.specs.Table.{Step, firstStep, laterSteps}
+use Rattle.utc.specs.Readings.{reading, readingIndex, lastSecond}
+use Rattle.utc.specs.declared.Reading.{Reading}
+
+-- each row is of a later day than the one before it, and a second more
+unfoldable pub rising : Step → List Step → Bool
+rising r [] = true
+rising r (q ∷ qs) = ltb (dateIndex (r .from)) (dateIndex (q .from)) && (eqb (q .seconds) (r .seconds + 1) && rising q qs)
+
+-- the seconds of the last row
+unfoldable pub lastSeconds : Step → List Step → ℕ
+lastSeconds r [] = r .seconds
+lastSeconds r (q ∷ qs) = lastSeconds q qs
+
+-- the table's rule: 28 rows, from 10 seconds to 37, rising
+unfoldable pub tableRule : Bool
+tableRule =
+    eqb (length (firstStep ∷ laterSteps)) 28 && (eqb (firstStep .seconds) 10 && (eqb (lastSeconds firstStep laterSteps) 37 && rising firstStep laterSteps))
+
+-- the reading a second later: the next second of the minute, else the next minute, hour or day
+unfoldable pub nextSecond : Reading → Reading
+nextSecond r =
+    let t = next (date (r .year) (r .month) (r .day)) in
+    cond (ltb (r .second) (lastSecond (readingIndex r) (r .hour) (r .minute)))
+    (reading (r .year) (r .month) (r .day) (r .hour) (r .minute) (r .second + 1) (r .microsecond))
+    (cond (ltb (r .minute) 59) (reading (r .year) (r .month) (r .day) (r .hour) (r .minute + 1) 0 (r .microsecond))
+    (cond (ltb (r .hour) 23) (reading (r .year) (r .month) (r .day) (r .hour + 1) 0 0 (r .microsecond))
+    (reading (t .year) (t .month) (t .day) 0 0 0 (r .microsecond))))
