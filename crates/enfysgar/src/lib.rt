@@ -5,4 +5,5 @@ mod nutation_calls;
 mod record_calls;
 mod run_calls;
 mod tide_calls;
+mod utc_calls;
 mod zonal_calls;
