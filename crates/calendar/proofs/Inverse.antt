@@ -33,7 +33,7 @@ pub record AcceptedDate (y m d : ℕ) : Type 0 where
   pub first : 1 ≤ d
   pub last : d ≤ monthLength y m
 
-valid : (y m d : ℕ) → AcceptedDate y m d → Valid (date y m d)
+pub valid : (y m d : ℕ) → AcceptedDate y m d → Valid (date y m d)
 valid y m d a = record { late = omega (arith, a .from); one = a .one; twelve = a .twelve; first = a .first; last = a .last }
 
 -- an accepted date has its day number
@@ -107,11 +107,11 @@ number-pos : (n : ℕ) → firstIndex ≤ n → dayAtIndex n ≡ pos (n - indexO
 unfolding dayAtIndex
 number-pos n h = day-natural n (omega arith)
 
-number-inside : (n : ℕ) → firstIndex ≤ n → n ≤ lastIndex → outside (dayAtIndex n) ≡ false
+pub number-inside : (n : ℕ) → firstIndex ≤ n → n ≤ lastIndex → outside (dayAtIndex n) ≡ false
 unfolding outside
 number-inside n h k = rw (number-pos n h) (simp (le-ltb (n - indexOffset) 15020 (omega arith), le-ltb 88433 (n - indexOffset) (omega arith)))
 
-number-index : (n : ℕ) → firstIndex ≤ n → dayIndex (dayAtIndex n) ≡ n
+pub number-index : (n : ℕ) → firstIndex ≤ n → dayIndex (dayAtIndex n) ≡ n
 unfolding dayIndex
 number-index n h = let b : n - indexOffset + indexOffset ≡ n = omega arith in rw (number-pos n h) b
 
@@ -134,7 +134,7 @@ date-range z t e =
     (r .0 .0, cc)
 
 -- a date whose index is in range is accepted
-in-range : (t : Date) → Valid t → firstIndex ≤ dateIndex t → dateIndex t ≤ lastIndex → AcceptedDate (t .year) (t .month) (t .day)
+pub in-range : (t : Date) → Valid t → firstIndex ≤ dateIndex t → dateIndex t ≤ lastIndex → AcceptedDate (t .year) (t .month) (t .day)
 in-range t v h k = record { from = from (decLe firstYear (t .year)); to = to (decLe (t .year) lastYear); one = v .one; twelve = v .twelve; first = v .first; last = v .last }
   where
     from : Dec (firstYear ≤ t .year) → firstYear ≤ t .year

@@ -158,3 +158,21 @@ minute-of u = by (decLe 1440 (u / 60_000_000))
     by : Dec (1440 ≤ u / 60_000_000) → Minute u (minuteOfDay u)
     by (yes p) = rw (le-ltb (u / 60_000_000) 1440 p) (record { below = omega arith; from = omega (arith, p) })
     by (no p) = rw (lt-ltb (u / 60_000_000) 1440 (omega (arith, p))) (record { below = omega (arith, p); from = omega arith })
+
+-- the second of a time of the UTC day n is not past the last of its minute
+pub second-at : (n u : ℕ) → u < dayLength n → u / secondMicros - minuteOfDay u * 60 ≤ lastSecond n (minuteOfDay u / 60) (minuteOfDay u % 60)
+second-at n u less = by (decLe 1440 (u / 60_000_000))
+  where
+    longer-day : (b : Bool) → dayMicros ≤ u → u < dayMicros + extra b * secondMicros → b ≡ true
+    longer-day true h k = refl
+    longer-day false h k = let v : ⊥ = omega arith in absurd v
+
+    usual-least : {l : ℕ} (h m : ℕ) → LastSecond n h m l → 59 ≤ l
+    usual-least h m usual = omega arith
+    usual-least h m (longer p q s) = omega arith
+
+    by : Dec (1440 ≤ u / 60_000_000) → u / secondMicros - minuteOfDay u * 60 ≤ lastSecond n (minuteOfDay u / 60) (minuteOfDay u % 60)
+    by (yes p) = rw (le-ltb (u / 60_000_000) 1440 p, longer-day (hasSecond60 n) (omega (arith, p)) less) (omega (arith, less, extra-most (hasSecond60 n)))
+    by (no p) =
+        rw (lt-ltb (u / 60_000_000) 1440 (omega (arith, p)))
+        (omega (arith, usual-least _ _ (last-second n (u / 60_000_000 / 60) (u / 60_000_000 % 60))))
