@@ -24,9 +24,9 @@ pub record Valid (t : Date) : Type 0 where
   pub last : t .day ≤ monthLength (t .year) (t .month)
 
 -- the day after a date is a date, one further
-record Steps (s t : Date) : Type 0 where
-  valid : Valid t
-  more : dateIndex t ≡ suc (dateIndex s)
+pub record Steps (s t : Date) : Type 0 where
+  pub valid : Valid t
+  pub more : dateIndex t ≡ suc (dateIndex s)
 
 years-one : (k : ℕ) → daysOfYears (suc k) ≡ daysOfYears k + (365 + leapDay (1600 + k))
 unfolding daysOfYears
@@ -42,7 +42,7 @@ before-one : (y : ℕ) → daysBefore y 1 ≡ 0
 unfolding daysBefore sum monthLengths
 before-one y = refl
 
-step : (t : Date) → Valid t → Steps t (next t)
+pub step : (t : Date) → Valid t → Steps t (next t)
 unfolding next dateIndex
 step t v = by-day (ltb (t .day) (monthLength (t .year) (t .month))) refl
   where

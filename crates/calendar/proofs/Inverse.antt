@@ -103,7 +103,7 @@ date-at y m d i e =
     record { accepted = a; index = f; low = omega (arith, b .0, f); high = omega (arith, b .1, f) }
 
 -- the number of an index in range is in range, and has that index
-number-pos : (n : ℕ) → firstIndex ≤ n → dayAtIndex n ≡ pos (n - indexOffset)
+pub number-pos : (n : ℕ) → firstIndex ≤ n → dayAtIndex n ≡ pos (n - indexOffset)
 unfolding dayAtIndex
 number-pos n h = day-natural n (omega arith)
 
