@@ -81,7 +81,7 @@ covered-to n x w h = by (decLe 155407 n)
 -- ---- the instant of a time
 
 -- the instant u microseconds after the beginning of the UTC day n has the moment of that, and is the only one of the TT day i that has
-moment-at : (n u : ℕ) →
+pub moment-at : (n u : ℕ) →
     let s = u + ttMinusUtc n in
     moment (n + s / dayMicros) (s % dayMicros) ≡ dayBegins n + u
 unfolding dayBegins
@@ -194,7 +194,7 @@ unfolding ttOf
 held-instant r h = none-answered NoInstant (readingCases r) _ (held-none r h)
 
 -- the instant of the time u of the UTC day n, where that is at the microseconds m of the TT day i
-instant-at : (i m n u : ℕ) → m < dayMicros → moment i m ≡ dayBegins n + u → ttAt n u ≡ instant (dayAtIndex i) m
+pub instant-at : (i m n u : ℕ) → m < dayMicros → moment i m ≡ dayBegins n + u → ttAt n u ≡ instant (dayAtIndex i) m
 unfolding dayBegins
 instant-at i m n u h e =
     let q : n + (u + ttMinusUtc n) / dayMicros ≡ i = omega (arith, e) in

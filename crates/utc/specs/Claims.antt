@@ -1,9 +1,12 @@
--- The words of the promises on UTC: the table's rule, and the reading a second later.
-use Prim.Native.Nat.{ℕ, _+_, _-_}
+-- The words of the promises on UTC: the table's rule, and the instant and the reading a second later.
+use Prim.Native.Nat.{ℕ, _+_}
 use mathlib.Core.Bool.{Bool, true, cond, _&&_}
 use mathlib.Core.List.{List, [], _∷_}
 use lib.Dec.{eqb, ltb}
 use lib.ListN.{length}
+use Rattle.instants.specs.Instants.{instant, laterDay, laterMicros}
+use Rattle.instants.specs.declared.Instant.{Instant}
+use Rattle.calendar.specs.Limits.{secondMicros}
 use Rattle.calendar.specs.Dates.{date, dateIndex, next}
 use Rattle.utc.specs.Table.{Step, firstStep, laterSteps}
 use Rattle.utc.specs.Readings.{reading, readingIndex, lastSecond}
@@ -23,6 +26,10 @@ lastSeconds r (q ∷ qs) = lastSeconds q qs
 unfoldable pub tableRule : Bool
 tableRule =
     eqb (length (firstStep ∷ laterSteps)) 28 && (eqb (firstStep .seconds) 10 && (eqb (lastSeconds firstStep laterSteps) 37 && rising firstStep laterSteps))
+
+-- the instant a second later
+abbrev pub instantSecondLater : Instant → Instant
+instantSecondLater t = instant (laterDay (t .day) (t .micros) secondMicros) (laterMicros (t .micros) secondMicros)
 
 -- the reading a second later: the next second of the minute, else the next minute, hour or day
 unfoldable pub nextSecond : Reading → Reading
