@@ -9,12 +9,9 @@ use lib.Dec.{eqb, ltb}
 use borrow.Author.Tests.{lt-ltb, le-ltb, eq-eqb, ne-eqb, eqb-true, eqb-false}
 use Rattle.calendar.specs.declared.Date.{Date}
 use Rattle.calendar.specs.Dates.{date, dateIndex}
+use Rattle.calendar.specs.Claims.{earlier, same}
 use Rattle.calendar.proofs.Dates.{Valid, unique, index-low, index-high, years-apart}
 use Rattle.calendar.proofs.Months.{month-apart}
-
--- the date y, m, d is before another
-abbrev pub earlier : (y m d : ℕ) → Date → Bool
-earlier y m d t = ltb y (t .year) || (eqb y (t .year) && (ltb m (t .month) || (eqb m (t .month) && ltb d (t .day))))
 
 -- an earlier year ends before a later one begins, and so does an earlier month of the same year
 year-before : (s t : Date) → Valid s → s .year < t .year → dateIndex s < dateIndex t
@@ -57,10 +54,6 @@ earlier-index s t v w = by (decLe (t .year) (s .year)) (decLe (s .year) (t .year
         let f : s ≡ date (t .year) (s .month) (s .day) = ap (λ (y : ℕ). date y (s .month) (s .day)) e in
         rw (le-ltb (s .year) (t .year) p, eq-eqb (s .year) (t .year) e)
         (ap (λ (q : Date). ltb (dateIndex q) (dateIndex t)) f ∙ in-year (t .year) (s .month) (s .day) (t .month) (t .day) (subst Valid f v) w)
-
--- the date y, m, d is another
-abbrev pub same : (y m d : ℕ) → Date → Bool
-same y m d t = eqb y (t .year) && (eqb m (t .month) && eqb d (t .day))
 
 pub same-index : (s t : Date) → Valid s → Valid t → eqb (dateIndex s) (dateIndex t) ≡ same (s .year) (s .month) (s .day) t
 same-index s t v w = by (eqb (dateIndex s) (dateIndex t)) refl

@@ -1,5 +1,6 @@
--- Dates and times of day. Read Limits, Dates, Times; Inner serves the code's own contracts.
+-- Dates and times of day. Read Limits, Dates, Times; Claims has words of the promises, Inner serves the code's own contracts.
 pub mod Limits
 pub mod Dates
 pub mod Times
+pub mod Claims
 pub mod Inner

@@ -73,6 +73,16 @@ first-none (c ∷ cs) h e = by (c .applies) refl (ltb 0 (c .number)) refl h e (f
     by true p true q h e f = let v : ⊥ = omega (arith, ltb-true 0 (c .number) q) in absurd v
     by false p true q h e f = (p, f h e)
 
+-- lists that agree where no case before them applies agree behind those cases
+pub first-behind : (cs ds es : List Case) → (NoneApplies cs → firstRefusal ds ≡ firstRefusal es) → firstRefusal (cs ++ ds) ≡ firstRefusal (cs ++ es)
+first-behind [] ds es h = h tt
+first-behind (c ∷ cs) ds es h = by (c .applies) refl (first-behind cs ds es)
+  where
+    by : (b : Bool) → c .applies ≡ b → ((NoneApplies cs → firstRefusal ds ≡ firstRefusal es) → firstRefusal (cs ++ ds) ≡ firstRefusal (cs ++ es))
+        → cond b (c .number) (firstRefusal (cs ++ ds)) ≡ cond b (c .number) (firstRefusal (cs ++ es))
+    by true p f = refl
+    by false p f = f (λ n. h (p, n))
+
 -- every number is below b
 abbrev pub numbersBelow : ℕ → List Case → Bool
 numbersBelow b [] = true
