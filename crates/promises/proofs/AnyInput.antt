@@ -13,6 +13,10 @@ use Rattle.calendar.specs.Times.{timeCases, instantOf, instantDayOr, instantMic
 use Rattle.calendar.specs.declared.DayAnswer.the-variants.{NoDay}
 use Rattle.calendar.specs.declared.DateAnswer.the-variants.{NoDate}
 use Rattle.calendar.specs.declared.InstantAnswer.the-variants.{NoInstant}
+use Rattle.instants.specs.Moments.{momentOf}
+use Rattle.utc.specs.Readings.{readingCases}
+use Rattle.utc.specs.Conversions as utc
+use Rattle.utc.specs.declared.ReadingAnswer.the-variants.{NoReading}
 use Rattle.clock.specs.Words.{splitOf, joinCases, joinOf, dayWordOr, timeWordOr, splitRefusalOf, joinedDayOr, joinedMicrosOr, joinRefusalOf}
 use Rattle.clock.specs.declared.SplitAnswer.the-variants.{NoSplit}
 use Rattle.clock.specs.declared.JoinAnswer.the-variants.{NoJoin}
@@ -29,6 +33,7 @@ use Rattle.record.specs.declared.ReadAnswer.the-variants.{NoRecord}
 use Rattle.record.proofs.Kept as kept
 use Rattle.run.specs.Run.{runCases, runRefusal}
 use Rattle.run.proofs.Records as records
+use Rattle.promises.proofs.Utc.{handed-readings, utc-to-tt, handed-instants, tt-to-utc}
 use Rattle.promises.specs.AnyInput.{Number, AnyInputIsAnswered}
 
 -- ---- the refusals
@@ -97,7 +102,7 @@ module _ {A : Type 0} (refuse : ℕ → A) (refusal : A → ℕ) (cs : List Case
 
 -- PROMISE. Demand 1: any input is answered.
 pub any-input-is-answered : AnyInputIsAnswered
-unfolding outside tide.allInRange dayOf dateOf instantOf splitOf joinOf tide.tideOf zonal.zonalOf nutation.nutationOf readOf
+unfolding outside tide.allInRange dayOf dateOf instantOf utc.ttOf utc.utcOf splitOf joinOf tide.tideOf zonal.zonalOf nutation.nutationOf readOf
 any-input-is-answered = record {
   date-to-day = date-to-day;
   date-to-day-numbers = λ y m d. number NoDay dateRefusalOf (dateCases y m d) _ (date-to-day y m d) tt dayNumberOr (pos 0) (λ _ _. refl) (λ _. refl);
@@ -151,4 +156,19 @@ any-input-is-answered = record {
   );
   run-write = run;
   run-write-keeps = records.refused-unchanged;
+  utc-to-tt = utc-to-tt;
+  utc-to-tt-numbers = λ r. (
+    number NoInstant instantRefusalOf (readingCases r) _ (handed-readings r) tt instantDayOr (pos 0) (λ _ _. refl) (λ _. refl),
+    number NoInstant instantRefusalOf (readingCases r) _ (handed-readings r) tt instantMicrosOr 0 (λ _ _. refl) (λ _. refl),
+  );
+  tt-to-utc = tt-to-utc;
+  tt-to-utc-numbers = λ d m. (
+    number NoReading utc.readingRefusalOf (instantCases d m ++ utc.momentCases (momentOf d m)) _ (handed-instants d m) tt utc.readingYearOr 0 (λ _ _. refl) (λ _. refl),
+    number NoReading utc.readingRefusalOf (instantCases d m ++ utc.momentCases (momentOf d m)) _ (handed-instants d m) tt utc.readingMonthOr 0 (λ _ _. refl) (λ _. refl),
+    number NoReading utc.readingRefusalOf (instantCases d m ++ utc.momentCases (momentOf d m)) _ (handed-instants d m) tt utc.readingDayOr 0 (λ _ _. refl) (λ _. refl),
+    number NoReading utc.readingRefusalOf (instantCases d m ++ utc.momentCases (momentOf d m)) _ (handed-instants d m) tt utc.readingHourOr 0 (λ _ _. refl) (λ _. refl),
+    number NoReading utc.readingRefusalOf (instantCases d m ++ utc.momentCases (momentOf d m)) _ (handed-instants d m) tt utc.readingMinuteOr 0 (λ _ _. refl) (λ _. refl),
+    number NoReading utc.readingRefusalOf (instantCases d m ++ utc.momentCases (momentOf d m)) _ (handed-instants d m) tt utc.readingSecondOr 0 (λ _ _. refl) (λ _. refl),
+    number NoReading utc.readingRefusalOf (instantCases d m ++ utc.momentCases (momentOf d m)) _ (handed-instants d m) tt utc.readingMicrosecondOr 0 (λ _ _. refl) (λ _. refl),
+  );
 }

@@ -5,7 +5,7 @@
 -- mark, numbers and sums in bytes and a later day are theirs): first when each refusal is given, then for each service its refusals in their order.
 use Prim.Native.Nat.{ℕ, _-_, _*_, _/_, _%_}
 use mathlib.Core.Path.{_≡_}
-use mathlib.Core.Bool.{Bool, not, _&&_, _||_}
+use mathlib.Core.Bool.{Bool, cond, not, _&&_, _||_}
 use mathlib.Core.List.{List, [], _∷_}
 use lib.Dec.{ltb, leb, eqb}
 use lib.IntN.{ℤ, pos, negℤ}
@@ -13,8 +13,13 @@ use lib.ListN.{length}
 use lib.Signed.{ltZ, leZ}
 use Rattle.instants.specs.Refusals.{Case, case, firstRefusal}
 use Rattle.instants.specs.Instants.{laterDay}
-use Rattle.calendar.specs.Dates.{monthLength, dayOf, dateOf, dayNumberOf, dayNumberOr, dateRefusalOf, yearOf, yearOr, monthOf, monthOr, dayOfMonthOf, dayOfMonthOr, dayRefusalOf}
+use Rattle.calendar.specs.Claims.{earlier, oneOf}
+use Rattle.calendar.specs.declared.Date.{Date}
+use Rattle.calendar.specs.Dates.{date, monthLength, dayOf, dateOf, dayNumberOf, dayNumberOr, dateRefusalOf, yearOf, yearOr, monthOf, monthOr, dayOfMonthOf, dayOfMonthOr, dayRefusalOf}
 use Rattle.calendar.specs.Times.{instantOf, instantDayOf, instantDayOr, instantMicrosOf, instantMicrosOr, instantRefusalOf}
+use Rattle.utc.specs.Conversions as utc
+use Rattle.utc.specs.Conversions.{ttOf}
+use Rattle.utc.specs.declared.Reading.{Reading}
 use Rattle.clock.specs.Words.{mark, splitOf, joinOf, dayWordOf, dayWordOr, timeWordOf, timeWordOr, splitRefusalOf, joinedDayOf, joinedDayOr, joinedMicrosOf, joinedMicrosOr, joinRefusalOf}
 use Rattle.tide.specs.Binary64.{zero64}
 use Rattle.tide.specs.Tidal as tide
@@ -102,6 +107,31 @@ refusal17 count = case 17 (ltb count 1 || ltb 96 count)
 abbrev pub refusal18 : ℕ → Case
 refusal18 step = case 18 (ltb step 1 || ltb 86_400_000_000 step)
 
+-- the 27 days that have a second 60, in their last minute
+unfoldable pub daysWithSecond60 : List Date
+daysWithSecond60 =
+    date 1972 6 30 ∷ date 1972 12 31 ∷ date 1973 12 31 ∷ date 1974 12 31 ∷ date 1975 12 31 ∷ date 1976 12 31 ∷ date 1977 12 31 ∷ date 1978 12 31 ∷ date 1979 12 31
+    ∷ date 1981 6 30 ∷ date 1982 6 30 ∷ date 1983 6 30 ∷ date 1985 6 30 ∷ date 1987 12 31 ∷ date 1989 12 31 ∷ date 1990 12 31 ∷ date 1992 6 30 ∷ date 1993 6 30
+    ∷ date 1994 6 30 ∷ date 1995 12 31 ∷ date 1997 6 30 ∷ date 1998 12 31 ∷ date 2005 12 31 ∷ date 2008 12 31 ∷ date 2012 6 30 ∷ date 2015 6 30 ∷ date 2016 12 31 ∷ []
+
+-- the second of a UTC reading
+abbrev pub refusal6-utc : (y m d hour minute second : ℕ) → Case
+refusal6-utc y m d hour minute second = case 6 (ltb (cond ((eqb hour 23 && eqb minute 59) && oneOf y m d daysWithSecond60) 60 59) second)
+
+-- a UTC date before the list of leap seconds begins, and one from which on it has expired
+abbrev pub refusal19-utc : (y m d : ℕ) → Case
+refusal19-utc y m d = case 19 (earlier y m d (date 1972 1 1))
+
+abbrev pub refusal20-utc : (y m d : ℕ) → Case
+refusal20-utc y m d = case 20 (not (earlier y m d (date 2025 6 28)))
+
+-- an instant before 1972-01-01 0 h UTC, and one from 2025-06-28 0 h UTC on
+abbrev pub refusal19-tt : ℤ → ℕ → Case
+refusal19-tt d m = case 19 (ltZ d (pos 41317) || (leZ d (pos 41317) && ltb m 42_184_000))
+
+abbrev pub refusal20-tt : ℤ → ℕ → Case
+refusal20-tt d m = case 20 (ltZ (pos 60854) d || (leZ (pos 60854) d && leb 69_184_000 m))
+
 -- ---- the demand: each service by its list, its numbers, bytes that stay
 
 -- One number of the answer a: `value a` is what its own call gives, and `left old a` what the call of the whole answer leaves where `old` stood.
@@ -162,3 +192,18 @@ pub record AnyInputIsAnswered : Type 0 where
   pub run-write : (d : ℤ) (m count step n : ℕ) → runRefusal d m count step n
       ≡ firstRefusal (refusal17 count ∷ refusal18 step ∷ refusal8 d ∷ refusal9 m ∷ refusal8-last (laterDay d m ((count - 1) * step)) ∷ refusal12 n (30 * count) ∷ [])
   pub run-write-keeps : (d : ℤ) (m count step : ℕ) (old : List ℕ) → (runRefusal d m count step (length old) ≡ 0 → ⊥) → runWritten d m count step old ≡ old
+  -- (h) UTC
+  pub utc-to-tt : (r : Reading) → instantRefusalOf (ttOf r)
+      ≡ firstRefusal (refusal1 (r .year) ∷ refusal2 (r .month) ∷ refusal3 (r .year) (r .month) (r .day) ∷ refusal4 (r .hour) ∷ refusal5 (r .minute)
+      ∷ refusal6-utc (r .year) (r .month) (r .day) (r .hour) (r .minute) (r .second) ∷ refusal7 (r .microsecond)
+      ∷ refusal19-utc (r .year) (r .month) (r .day) ∷ refusal20-utc (r .year) (r .month) (r .day) ∷ [])
+  pub utc-to-tt-numbers : (r : Reading) → Number instantRefusalOf instantDayOf instantDayOr (pos 0) (ttOf r) × Number instantRefusalOf instantMicrosOf instantMicrosOr 0 (ttOf r)
+  pub tt-to-utc : (d : ℤ) (m : ℕ) → utc.readingRefusalOf (utc.utcOf d m) ≡ firstRefusal (refusal8 d ∷ refusal9 m ∷ refusal19-tt d m ∷ refusal20-tt d m ∷ [])
+  pub tt-to-utc-numbers : (d : ℤ) (m : ℕ)
+      → Number utc.readingRefusalOf utc.readingYearOf utc.readingYearOr 0 (utc.utcOf d m)
+      × Number utc.readingRefusalOf utc.readingMonthOf utc.readingMonthOr 0 (utc.utcOf d m)
+      × Number utc.readingRefusalOf utc.readingDayOf utc.readingDayOr 0 (utc.utcOf d m)
+      × Number utc.readingRefusalOf utc.readingHourOf utc.readingHourOr 0 (utc.utcOf d m)
+      × Number utc.readingRefusalOf utc.readingMinuteOf utc.readingMinuteOr 0 (utc.utcOf d m)
+      × Number utc.readingRefusalOf utc.readingSecondOf utc.readingSecondOr 0 (utc.utcOf d m)
+      × Number utc.readingRefusalOf utc.readingMicrosecondOf utc.readingMicrosecondOr 0 (utc.utcOf d m)

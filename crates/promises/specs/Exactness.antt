@@ -1,8 +1,11 @@
--- Demand 2: exactness. Dates each way; frequency and phase; records read back; clock words joined exactly when they are of one day.
+-- Demand 2: exactness. Dates each way; frequency and phase; records read back; clock words joined exactly when they are of one day; UTC readings and
+-- instants each way.
 use Prim.Native.Nat.{ℕ, _*_, _≤_, _<_}
 use mathlib.Core.Path.{_≡_}
 use mathlib.Core.Bool.{false}
 use mathlib.Core.List.{List, _++_}
+use mathlib.Core.Logic.{_⊎_}
+use lib.Dec.{T}
 use lib.IntN.{ℤ, pos, _+ℤ_, _-ℤ_, natAbs}
 use lib.ListN.{length, take, drop, getD, set}
 use mir.Syntax.{w32}
@@ -15,7 +18,15 @@ use Rattle.calendar.specs.declared.Date.{Date}
 use Rattle.instants.specs.declared.Instant.{Instant}
 use Rattle.calendar.specs.declared.DayAnswer.the-variants.{Day}
 use Rattle.calendar.specs.declared.DateAnswer.the-variants.{OnDate}
-use Rattle.calendar.specs.declared.InstantAnswer.the-variants.{AtInstant}
+use Rattle.calendar.specs.declared.InstantAnswer.the-variants.{AtInstant, NoInstant}
+use Rattle.calendar.specs.Claims.{oneOf}
+use Rattle.utc.specs.Table.{laterSteps}
+use Rattle.utc.specs.Readings.{reading, readingIndex, readingMicros, AcceptedReading}
+use Rattle.utc.specs.Conversions.{ttAt, ttOf, utcOf, readingRefusalOf}
+use Rattle.utc.specs.Claims.{tableRule, evesOf, instantSecondLater, nextSecond}
+use Rattle.utc.specs.declared.Reading.{Reading}
+use Rattle.utc.specs.declared.ReadingAnswer.the-variants.{AtReading, NoReading}
+use Rattle.promises.specs.AnyInput.{daysWithSecond60}
 use Rattle.clock.specs.Words.{words, timeWord, splitOf, joinOf}
 use Rattle.clock.specs.declared.SplitAnswer.the-variants.{Split}
 use Rattle.clock.specs.declared.JoinAnswer.the-variants.{Joined, NoJoin}
@@ -72,3 +83,28 @@ pub record Exactness : Type 0 where
   pub run-later : (d : ℤ) (m t : ℕ) → (sinceJ2000 (laterDay d m t) (laterMicros m t) ≡ sinceJ2000 d m +ℤ pos t) × (laterMicros m t < dayMicros)
   pub run-keeps-behind : (d : ℤ) (m count step : ℕ) (old : List ℕ)
       → (length (runWritten d m count step old) ≡ length old) × (drop (recordLength * count) (runWritten d m count step old) ≡ drop (recordLength * count) old)
+  -- (h) a UTC reading is accepted exactly when it has an instant, and that instant is accepted
+  pub accepted-reading-has-instant : (r : Reading) → AcceptedReading r → ttOf r ≡ AtInstant (ttAt (readingIndex r) (readingMicros r))
+  pub reading-with-instant-accepted : (r : Reading) (t : Instant) → ttOf r ≡ AtInstant t → AcceptedReading r × IsAccepted (t .day) (t .micros)
+  -- two accepted readings that have one instant are the same reading
+  pub one-reading : (r q : Reading) (t : Instant) → ttOf r ≡ AtInstant t → ttOf q ≡ AtInstant t → r ≡ q
+  -- the reading of a reading's instant is that reading, and the instant of an instant's reading is that instant
+  pub reading-there-and-back : (r : Reading) (t : Instant) → ttOf r ≡ AtInstant t → utcOf (t .day) (t .micros) ≡ AtReading r
+  pub instant-there-and-back : (d : ℤ) (m : ℕ) (r : Reading) → utcOf d m ≡ AtReading r → ttOf r ≡ AtInstant (instant d m)
+  -- a refused instant is no reading's; an accepted instant that is no reading's is refused, by 19 or 20
+  pub refused-is-unread : (d : ℤ) (m : ℕ) → (readingRefusalOf (utcOf d m) ≡ 0 → ⊥) → (r : Reading) → ttOf r ≡ AtInstant (instant d m) → ⊥
+  pub unread-is-refused : (d : ℤ) (m : ℕ) → IsAccepted d m → ((r : Reading) → ttOf r ≡ AtInstant (instant d m) → ⊥) → (utcOf d m ≡ NoReading 19) ⊎ (utcOf d m ≡ NoReading 20)
+  -- the table keeps its rule, and the 27 dates of the figures are the days before its later rows; a second past 59 is accepted exactly at 23:59:60 of these
+  pub table-rule : T tableRule
+  pub days-with-second-60 : T (evesOf daysWithSecond60 laterSteps)
+  pub second-60-only : (r : Reading) → AcceptedReading r → 59 < r .second
+      → (r .second ≡ 60) × (r .hour ≡ 23) × (r .minute ≡ 59) × T (oneOf (r .year) (r .month) (r .day) daysWithSecond60)
+  pub second-60-there : (y m d u : ℕ) → T (oneOf y m d daysWithSecond60) → u ≤ 999_999 → AcceptedReading (reading y m d 23 59 60 u)
+  -- the reading a second after an accepted one has the instant a second later, or the list expires there
+  pub time-runs-on : (r : Reading) (t : Instant) → ttOf r ≡ AtInstant t
+      → (ttOf (nextSecond r) ≡ AtInstant (instantSecondLater t)) ⊎ (ttOf (nextSecond r) ≡ NoInstant 20)
+  -- there are such: a reading and its instant, one in second 60, the last before the list expires, and instants that are refused on both sides
+  pub a-reading : ttOf (reading 2009 6 25 0 0 0 0) ≡ AtInstant (instant (pos 55007) 66_184_000)
+  pub a-second-60 : ttOf (reading 2016 12 31 23 59 60 500_000) ≡ AtInstant (instant (pos 57754) 68_684_000)
+  pub first-and-last : (utcOf (pos 41317) 42_184_000 ≡ AtReading (reading 1972 1 1 0 0 0 0)) × (utcOf (pos 60854) 69_183_999 ≡ AtReading (reading 2025 6 27 23 59 59 999_999))
+  pub before-and-after : (utcOf (pos 41317) 42_183_999 ≡ NoReading 19) × (utcOf (pos 60854) 69_184_000 ≡ NoReading 20)

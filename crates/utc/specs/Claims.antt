@@ -1,13 +1,14 @@
--- The words of the promises on UTC: the table's rule, and the instant and the reading a second later.
+-- The words of the promises on UTC: the table's rule, the days before its rows, and the instant and the reading a second later.
 use Prim.Native.Nat.{ℕ, _+_}
-use mathlib.Core.Bool.{Bool, true, cond, _&&_}
+use mathlib.Core.Bool.{Bool, true, false, cond, _&&_}
 use mathlib.Core.List.{List, [], _∷_}
-use lib.Dec.{eqb, ltb}
+use lib.Dec.{eqb, ltb, leb}
 use lib.ListN.{length}
 use Rattle.instants.specs.Instants.{instant, laterDay, laterMicros}
 use Rattle.instants.specs.declared.Instant.{Instant}
 use Rattle.calendar.specs.Limits.{secondMicros}
-use Rattle.calendar.specs.Dates.{date, dateIndex, next}
+use Rattle.calendar.specs.Dates.{date, monthLength, dateIndex, next}
+use Rattle.calendar.specs.declared.Date.{Date}
 use Rattle.utc.specs.Table.{Step, firstStep, laterSteps}
 use Rattle.utc.specs.Readings.{reading, readingIndex, lastSecond}
 use Rattle.utc.specs.declared.Reading.{Reading}
@@ -26,6 +27,17 @@ lastSeconds r (q ∷ qs) = lastSeconds q qs
 unfoldable pub tableRule : Bool
 tableRule =
     eqb (length (firstStep ∷ laterSteps)) 28 && (eqb (firstStep .seconds) 10 && (eqb (lastSeconds firstStep laterSteps) 37 && rising firstStep laterSteps))
+
+-- the date t is the day before the row r
+unfoldable pub eveOf : Date → Step → Bool
+eveOf t r = leb 1600 (t .year) && (leb 1 (t .month) && (leb (t .month) 12 && (leb 1 (t .day) && (leb (t .day) (monthLength (t .year) (t .month)) && eqb (dateIndex t + 1) (dateIndex (r .from))))))
+
+-- the dates are the days before the rows, one for each
+unfoldable pub evesOf : List Date → List Step → Bool
+evesOf [] [] = true
+evesOf [] (r ∷ rs) = false
+evesOf (t ∷ ts) [] = false
+evesOf (t ∷ ts) (r ∷ rs) = eveOf t r && evesOf ts rs
 
 -- the instant a second later
 abbrev pub instantSecondLater : Instant → Instant
