@@ -25,7 +25,7 @@ CRATES = crates.txt $(shell find crates -name '*.rt' -o -name '*.antt')
 SOURCE = $(shell find crates -path '*/src/*.rt' -o -path '*/specs/*.antt')
 DOC = $(DESTDIR)$(PREFIX)/share/doc/enfysgar
 
-C_FILES = $(wildcard include/*.h tests/*.c tests/*.h examples/*.c bench/*.c)
+C_FILES = $(wildcard include/*.h tests/*.c tests/*.h examples/*.c bench/*.c bench/*.h)
 
 .PHONY: all archive program demo examples bench test install version lint clean
 
