@@ -14,7 +14,7 @@ RT ?= rt
 CC ?= cc
 CFLAGS ?= -O2 -Wall -Wextra
 PREFIX ?= /usr/local
-VERSION = 1.1.0
+VERSION = 1.2.0
 DAY ?= 2007 12 31 96 900
 
 ARCHIVE = target/staticlib/libenfysgar.a
@@ -25,7 +25,7 @@ CRATES = crates.txt $(shell find crates -name '*.rt' -o -name '*.antt')
 SOURCE = $(shell find crates -path '*/src/*.rt' -o -path '*/specs/*.antt')
 DOC = $(DESTDIR)$(PREFIX)/share/doc/enfysgar
 
-C_FILES = $(wildcard include/*.h tests/*.c tests/*.h examples/*.c bench/*.c)
+C_FILES = $(wildcard include/*.h tests/*.c tests/*.h examples/*.c bench/*.c bench/*.h)
 
 .PHONY: all archive program demo examples bench test install version lint clean
 

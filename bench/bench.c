@@ -1,13 +1,15 @@
 /*
- * Times the library's calls beside plain C (tests/model*.c, with libm's sine and cosine, and a date of
- * its own below), and beside ERFA where it is installed (WITH_ERFA), in one process on the same inputs.
+ * Times the library's calls beside plain C (tests/model*.c, with libm's sine and cosine, and plain.h for
+ * dates and UTC), and beside ERFA where it is installed (WITH_ERFA), in one process on the same inputs.
  * A row whose ratio is above the most that is allowed for it is marked, and the status is 1.
  */
 #define _POSIX_C_SOURCE 199309L
 #include "../include/enfysgar.h"
 #include "../tests/model.h"
+#include "plain.h"
 
 #include <stdio.h>
+#include <string.h>
 #include <time.h>
 #ifdef WITH_ERFA
 #include <erfa.h>
@@ -18,7 +20,8 @@
 #define ROUNDS 100
 #define STEP 900000000
 
-static struct instant at[INPUTS];
+static struct instant at[INPUTS], utc_at[INPUTS]; /* the second has those of the readings */
+static uint64_t reading[INPUTS][7];
 static int64_t multiplier[INPUTS][6];
 static uint8_t record[INPUTS][30];
 static uint8_t run[96 * 30];
@@ -169,25 +172,70 @@ static double run_96_plain(int i)
     return refusals;
 }
 
-/* The year, month and day of a day number by whole-number arithmetic on years that start in March. */
-static struct date date_plain_of(int64_t day)
-{
-    uint64_t z = (uint64_t)(day + 678881);
-    uint64_t era = z / 146097, of_era = z % 146097;
-    uint64_t year_of_era = (of_era - of_era / 1460 + of_era / 36524 - of_era / 146096) / 365;
-    uint64_t of_year = of_era - (365 * year_of_era + year_of_era / 4 - year_of_era / 100);
-    uint64_t month_from_march = (5 * of_year + 2) / 153;
-    uint64_t month = month_from_march < 10 ? month_from_march + 3 : month_from_march - 9;
-
-    return (struct date){era * 400 + year_of_era + (month <= 2), month, of_year - (153 * month_from_march + 2) / 5 + 1};
-}
-
 static double date_plain(int i)
 {
     struct date x = date_plain_of(at[i].day);
 
     return (double)(x.year + x.month + x.day);
 }
+
+static double utc_to_tt(int i)
+{
+    const uint64_t *f = reading[i];
+    int64_t day = 0;
+    uint64_t micros = 0;
+    uint32_t refusal = enfys_utc_to_tt(f[0], f[1], f[2], f[3], f[4], f[5], f[6], &day, &micros);
+
+    return refusal + (double)day + (double)micros;
+}
+
+static double utc_to_tt_plain(int i)
+{
+    struct instant tt = {0, 0};
+    uint32_t refusal = utc_plain_to_tt(reading[i], &tt);
+
+    return refusal + (double)tt.day + (double)tt.micros;
+}
+
+static double tt_to_utc(int i)
+{
+    uint64_t f[7] = {0};
+    uint32_t refusal = enfys_tt_to_utc(utc_at[i].day, utc_at[i].micros, f, f + 1, f + 2, f + 3, f + 4, f + 5, f + 6);
+
+    return refusal + (double)(f[0] + f[1] + f[2] + f[3] + f[4] + f[5] + f[6]);
+}
+
+static double tt_to_utc_plain(int i)
+{
+    uint64_t f[7] = {0};
+    uint32_t refusal = tt_plain_to_utc(utc_at[i], f);
+
+    return refusal + (double)(f[0] + f[1] + f[2] + f[3] + f[4] + f[5] + f[6]);
+}
+
+#ifdef WITH_ERFA
+static double utc_to_tt_erfa(int i)
+{
+    const uint64_t *f = reading[i];
+    double x = 0.0, y = 0.0;
+
+    eraDtf2d("UTC", (int)f[0], (int)f[1], (int)f[2], (int)f[3], (int)f[4], (double)f[5] + 1e-6 * (double)f[6], &x, &y);
+    eraUtctai(x, y, &x, &y);
+    eraTaitt(x, y, &x, &y);
+    return x + y;
+}
+
+static double tt_to_utc_erfa(int i)
+{
+    double x = 2400000.5 + (double)utc_at[i].day, y = (double)utc_at[i].micros / 86400e6;
+    int year = 0, month = 0, day = 0, f[4] = {0};
+
+    eraTttai(x, y, &x, &y);
+    eraTaiutc(x, y, &x, &y);
+    eraD2dtf("UTC", 6, x, y, &year, &month, &day, f);
+    return (double)(year + month + day + f[0] + f[1] + f[2] + f[3]);
+}
+#endif
 
 static double now(void)
 {
@@ -222,7 +270,11 @@ static struct row {
     {"record read", read_back, read_back_plain, 0.8, 0, 0},
 #ifdef WITH_ERFA
     {"day to date, against ERFA's eraJd2cal", date, date_erfa, 0.6, 0, 0},
+    {"UTC to TT, against ERFA", utc_to_tt, utc_to_tt_erfa, 0, 0, 0},
+    {"TT to UTC, against ERFA", tt_to_utc, tt_to_utc_erfa, 0, 0, 0},
 #endif
+    {"UTC to TT", utc_to_tt, utc_to_tt_plain, 0, 0, 0},
+    {"TT to UTC", tt_to_utc, tt_to_utc_plain, 0, 0, 0},
     {"frequency and phase", constituent, constituent_plain, 0, 0, 0},
     {"record written", written, written_plain, 0, 0, 0},
     {"run of 96 records", run_96, run_96_plain, 0, 0, 0},
@@ -260,23 +312,58 @@ static uint64_t next(void)
     return x ^= x << 17;
 }
 
-int main(void)
+static void make_inputs(void)
 {
-    int above = 0;
-
     for (int i = 0; i < INPUTS; i++) {
         at[i] = (struct instant){(int64_t)(16000 + next() % 72000), next() % 86400000000};
         for (int k = 0; k < 6; k++)
             multiplier[i][k] = (int64_t)(next() % 7) - 3;
     }
     for (int i = 0; i < INPUTS; i++) {
+        struct date x = date_plain_of((int64_t)(41317 + next() % 19537));
+        uint64_t f[7] = {x.year, x.month, x.day, next() % 24, next() % 60, next() % 60, next() % 1000000};
+
+        memcpy(reading[i], f, sizeof f);
+        model_utc_to_tt(f, &utc_at[i]);
+    }
+}
+
+/* Whether plain.h and the model have the same reading of an instant, and the instant of it. */
+static int same_utc(struct instant tt)
+{
+    struct instant x = {0, 0};
+    uint64_t f[7] = {0}, g[7];
+
+    return tt_plain_to_utc(tt, f) == model_tt_to_utc(tt, g) && memcmp(f, g, sizeof f) == 0 &&
+           (f[0] == 0 || (utc_plain_to_tt(f, &x) == 0 && x.day == tt.day && x.micros == tt.micros));
+}
+
+/* Whether what is timed answers right: at the inputs, and for UTC around the steps as well. */
+static int right(void)
+{
+    int wrong = 0;
+
+    for (int i = 0; i < INPUTS; i++) {
         struct date x = date_plain_of(at[i].day), y;
 
         model_date_of_day(at[i].day, &y);
-        if (x.year != y.year || x.month != y.month || x.day != y.day || written(i) != 0) {
-            fprintf(stderr, "bench: the plain date is wrong, or a record was not written\n");
-            return 2;
-        }
+        wrong += x.year != y.year || x.month != y.month || x.day != y.day || written(i) != 0;
+        wrong += !same_utc(utc_at[i]) || !same_utc(at[i]) || utc_to_tt(i) != utc_to_tt_plain(i);
+    }
+    for (int i = 0; i < STEPS; i++)
+        for (uint64_t micros = 0; micros < 100000000; micros += 500000)
+            wrong += !same_utc((struct instant){step_day[i], micros}) || !same_utc((struct instant){EXPIRY, micros});
+    return wrong == 0;
+}
+
+int main(void)
+{
+    int above = 0;
+
+    make_inputs();
+    if (!right()) {
+        fprintf(stderr, "bench: plain.h is wrong, or a record was not written\n");
+        return 2;
     }
     /* Several passes over all rows, so that what else the machine does for some seconds spoils no row. */
     for (int pass = 0; pass < PASSES; pass++)

@@ -1,9 +1,11 @@
 /*
  * How a daemon uses the library: it reads the two clock words of the unit, notices a torn read,
- * and gives phase, corrections and offsets for that instant. At the end it shows what each
- * refusal means. The clock here is made up; nothing of this file is part of the proved product.
+ * and gives phase, corrections and offsets for that instant; and the same for UTC times as an
+ * operator types them. At the end it shows what each refusal means. The clock and the operator here
+ * are made up; nothing of this file is part of the proved product.
  *
  *     cc -O2 -Iinclude examples/daemon.c target/staticlib/libenfysgar.a -lm -o daemon
+ *     ./daemon ['2016-12-31 23:59:60.5' ..]
  */
 #include <enfysgar.h>
 
@@ -18,7 +20,7 @@ static const char *const meaning[] = {
     "no such day in that month",
     "no such hour",
     "no such minute",
-    "no such second",
+    "no such second; 60 is for the leap seconds of UTC",
     "no such microsecond of a second",
     "day number outside 15020..88433",
     "microseconds of the day not below 86400000000",
@@ -31,6 +33,8 @@ static const char *const meaning[] = {
     "words of the record do not add up to 0: it is damaged",
     "number of records outside 1..96",
     "step outside 1..86400000000 microseconds",
+    "UTC before 1972-01-01",
+    "UTC beyond the leap-second table: update the library",
 };
 
 static const char *text(uint32_t refusal)
@@ -83,6 +87,19 @@ static int show_instant(int64_t day, uint64_t micros)
     return 0;
 }
 
+/* The UTC of an instant; the table may not have it, and the unit goes on without. */
+static void show_utc(int64_t day, uint64_t micros)
+{
+    uint64_t year, month, day_of_month, hour, minute, second, microsecond;
+    uint32_t refusal =
+        enfys_tt_to_utc(day, micros, &year, &month, &day_of_month, &hour, &minute, &second, &microsecond);
+
+    if (refused(refusal))
+        return;
+    printf("  UTC %04" PRIu64 "-%02" PRIu64 "-%02" PRIu64 " %02" PRIu64 ":%02" PRIu64 ":%02" PRIu64 ".%06" PRIu64 "\n",
+           year, month, day_of_month, hour, minute, second, microsecond);
+}
+
 /* Writes a record of an instant and its corrections, reads it back, and reads it with a bit changed. */
 static int record_and_read(int64_t day, uint64_t micros, int32_t ut1, int32_t lod, int32_t rate)
 {
@@ -110,7 +127,7 @@ static int record_and_read(int64_t day, uint64_t micros, int32_t ut1, int32_t lo
     return 0;
 }
 
-/* Everything the daemon gives for one instant. Any of these calls could refuse it; all would say the same. */
+/* Everything the daemon gives for one instant. Any of these calls could refuse it; all but UTC would say the same. */
 static int serve(int64_t day, uint64_t micros)
 {
     double frequency, phase;
@@ -118,6 +135,9 @@ static int serve(int64_t day, uint64_t micros)
     int64_t x, y;
     uint64_t uncertainty;
 
+    if (show_instant(day, micros) != 0)
+        return 1;
+    show_utc(day, micros);
     if (refused(enfys_tide(day, micros, 2, 0, 0, 0, 0, 0, &frequency, &phase)) ||
         refused(enfys_zonal(day, micros, &ut1, &lod, &rate)) ||
         refused(enfys_nutation(day, micros, &x, &y, &uncertainty)))
@@ -127,6 +147,52 @@ static int serve(int64_t day, uint64_t micros)
            rate);
     printf("  nutation: X %" PRId64 " nas, Y %" PRId64 " nas, uncertainty %" PRIu64 " nas\n", x, y, uncertainty);
     return record_and_read(day, micros, ut1, lod, rate);
+}
+
+static int is_digit(char c)
+{
+    return c >= '0' && c <= '9';
+}
+
+/*
+ * Takes a typed UTC time apart: "2016-12-31 23:59:60", and behind it nothing, or a point and one to six digits.
+ * 0 where the text is anything else. Whether there is such a time is for the library to say.
+ */
+static int parse(const char *text, uint64_t field[7])
+{
+    static const char form[] = "0000-11-22 33:44:55"; /* a digit stands for a digit of that field */
+    uint64_t unit = 100000;
+
+    memset(field, 0, 7 * sizeof *field);
+    for (const char *f = form; *f != '\0'; f++, text++) {
+        if (is_digit(*f) ? !is_digit(*text) : *text != *f)
+            return 0;
+        if (is_digit(*f))
+            field[*f - '0'] = 10 * field[*f - '0'] + (uint64_t)(*text - '0');
+    }
+    if (*text == '\0')
+        return 1;
+    if (*text++ != '.')
+        return 0;
+    for (; is_digit(*text) && unit > 0; text++, unit /= 10)
+        field[6] += unit * (uint64_t)(*text - '0');
+    return *text == '\0' && unit < 100000;
+}
+
+/* What an operator gets for a UTC time. */
+static int serve_typed(const char *text)
+{
+    uint64_t f[7], micros;
+    int64_t day;
+
+    printf("typed \"%s\"\n", text);
+    if (!parse(text, f)) {
+        printf("  bad line\n");
+        return 0;
+    }
+    if (refused(enfys_utc_to_tt(f[0], f[1], f[2], f[3], f[4], f[5], f[6], &day, &micros)))
+        return 0;
+    return serve(day, micros);
 }
 
 static void show(uint32_t refusal, const char *call)
@@ -152,7 +218,7 @@ static void show_refusals(void)
     show(enfys_date_refusal(2100, 2, 29), "the date 2100-02-29");
     show(enfys_instant_refusal(2000, 1, 1, 24, 0, 0, 0), "24:00:00");
     show(enfys_instant_refusal(2000, 1, 1, 23, 60, 0, 0), "23:60:00");
-    show(enfys_instant_refusal(2000, 1, 1, 23, 59, 60, 0), "23:59:60");
+    show(enfys_instant_refusal(2000, 1, 1, 23, 59, 60, 0), "23:59:60 in TT");
     show(enfys_instant_refusal(2000, 1, 1, 23, 59, 59, 1000000), "23:59:59 and 1000000 microseconds");
     show(enfys_zonal_refusal(88434, 0), "corrections for day 88434");
     show(enfys_zonal_refusal(88433, ENFYS_DAY_MICROS), "corrections at the 86400000000th microsecond");
@@ -165,10 +231,17 @@ static void show_refusals(void)
     show(enfys_record_refusal(damaged[3], sizeof record), "a record with a wrong sum");
     show(enfys_run_write(54465, 0, 97, 900000000, run, sizeof run), "a run of 97 records");
     show(enfys_run_write(54465, 0, 96, 0, run, sizeof run), "a run with a step of 0");
+    show(enfys_utc_to_tt_refusal(1971, 12, 31, 23, 59, 59, 0), "UTC 1971-12-31 23:59:59");
+    show(enfys_tt_to_utc_refusal(ENFYS_UTC_EXPIRY_DAY + 1, 0), "UTC of day 60855");
 }
 
-int main(void)
+int main(int argc, char **argv)
 {
+    static const char *const typed[] = {
+        "2009-06-25 00:00:00", "2016-12-31 23:59:60.5", "2016-06-30 23:59:60",         "1971-12-31 23:59:59.999999",
+        "2025-06-28 00:00:00", "2009-06-25 0:00",       "2009-06-25 00:00:00.1234567",
+    };
+
     for (int attempt = 1; attempt <= 3; attempt++) {
         struct words words = read_clock(attempt);
         int64_t day;
@@ -181,10 +254,16 @@ int main(void)
                 continue;
             return 1;
         }
-        if (show_instant(day, micros) != 0 || serve(day, micros) != 0)
+        if (serve(day, micros) != 0)
             return 1;
         break;
     }
+    for (size_t i = 0; i < sizeof typed / sizeof *typed; i++)
+        if (serve_typed(typed[i]) != 0)
+            return 1;
+    for (int i = 1; i < argc; i++)
+        if (serve_typed(argv[i]) != 0)
+            return 1;
     printf("what each refusal means, and a call that gives it\n");
     show_refusals();
     return 0;

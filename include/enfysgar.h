@@ -1,6 +1,6 @@
 /*
  * Enfysgar: calendar, clock words, tidal phases, zonal-tide corrections,
- * free-core-nutation offsets and records for a timing unit.
+ * free-core-nutation offsets, records, and UTC to TT and back, for a timing unit.
  *
  * Include this header, and link libenfysgar.a and the mathematical library, which
  * has fmod:
@@ -44,6 +44,10 @@
  *   micros   microseconds of that day, from 0 to 86399999999.
  *   instant  a day and its micros, in Terrestrial Time (TT). An instant is
  *            accepted when neither 8 nor 9 applies to it.
+ *   UTC      Coordinated Universal Time, which operators type. TT is ahead of it by
+ *            32.184 s and the whole seconds of TAI - UTC, which leap seconds change.
+ *   reading  a date and a time of day in UTC: year, month, day of the month, hour,
+ *            minute, second, and microsecond of the second.
  *
  * This software is derived from routines of the IERS Conventions. It is not IERS
  * Conventions software, and is neither distributed nor endorsed by the IERS
@@ -64,9 +68,9 @@ extern "C" {
  * parameters, the minor number where calls are added, the patch number otherwise.
  */
 #define ENFYS_VERSION_MAJOR 1
-#define ENFYS_VERSION_MINOR 1
+#define ENFYS_VERSION_MINOR 2
 #define ENFYS_VERSION_PATCH 0
-#define ENFYS_VERSION_STRING "1.1.0"
+#define ENFYS_VERSION_STRING "1.2.0"
 
 /*
  * Refusal numbers. 0 is success. Where several apply, the first in the order
@@ -79,7 +83,8 @@ enum {
     ENFYS_DAY_OF_MONTH = 3,    /* day of month outside that month */
     ENFYS_HOUR = 4,            /* hour above 23 */
     ENFYS_MINUTE = 5,          /* minute above 59 */
-    ENFYS_SECOND = 6,          /* second above 59 */
+    ENFYS_SECOND = 6,          /* TT: second above 59. UTC: second above 60, or 60
+                                  where the minute has no leap second */
     ENFYS_MICROSECOND = 7,     /* microsecond of the second above 999999 */
     ENFYS_DAY = 8,             /* day outside 15020..88433 (1900-01-01..2100-12-31),
                                   or the last instant of a run after day 88433 */
@@ -92,7 +97,10 @@ enum {
     ENFYS_RECORD_ZERO = 15,    /* byte 3 of a record not 0 */
     ENFYS_RECORD_SUM = 16,     /* the 16-bit words of a record do not add up to 0 */
     ENFYS_RUN_COUNT = 17,      /* number of records of a run outside 1..96 */
-    ENFYS_RUN_STEP = 18        /* step of a run outside 1..86400000000 microseconds */
+    ENFYS_RUN_STEP = 18,       /* step of a run outside 1..86400000000 microseconds */
+    ENFYS_UTC_EARLY = 19,      /* UTC before 1972-01-01 */
+    ENFYS_UTC_EXPIRED = 20     /* UTC on 2025-06-28 or later: the table of leap
+                                  seconds has expired */
 };
 
 /* First and last accepted day, microseconds in a day, and the sizes of records. */
@@ -101,6 +109,10 @@ enum {
 #define ENFYS_DAY_MICROS UINT64_C(86400000000)
 #define ENFYS_RECORD_BYTES 30
 #define ENFYS_RUN_RECORDS 96
+
+/* UTC days, as day numbers: the first, and that on which the table expires. */
+#define ENFYS_UTC_FIRST_DAY INT64_C(41317)
+#define ENFYS_UTC_EXPIRY_DAY INT64_C(60854)
 
 /*
  * (a) Calendar. Gregorian dates from 1900-01-01 to 2100-12-31.
@@ -234,6 +246,38 @@ uint32_t enfys_run_write(int64_t day, uint64_t micros, uint64_t count,
                          uint64_t step_micros, uint8_t *buffer, size_t length);
 
 /*
+ * (h) UTC readings to instants, and back. A reading has the fields of (b), in UTC.
+ * Its instant is later by 32.184 s and TAI - UTC of its day, which is 10 s from
+ * 1972-01-01 on and has stepped up by 1 s on 27 days since, the last time to 37 s on
+ * 2017-01-01. The eve of each of the 27 ends with a leap second, second 60 of 23:59:
+ * 2016-12-31 23:59:60.999999 is a reading, and a microsecond after it 2017 begins.
+ *
+ * The table of leap seconds, from the IERS list, is built in and has an expiry day,
+ * 2025-06-28. The range of readings is from 1972-01-01 up to that day, without it.
+ * From that day on there may be leap seconds that this version does not know: it
+ * refuses rather than guesses. A new leap second, or the expiry day, needs a new
+ * version of the library; with ENFYS_UTC_EXPIRY_DAY a daemon can warn ahead of it.
+ */
+
+/*
+ * The instant of a reading. Refused, in this order: 1, 2, 3, 4, 5, 6 (second 61 or
+ * more, and second 60 where the minute has no leap second), 7, 19 (before
+ * 1972-01-01), 20 (on 2025-06-28 or later). No two readings have the same instant.
+ */
+uint32_t enfys_utc_to_tt(uint64_t year, uint64_t month, uint64_t day_of_month,
+                         uint64_t hour, uint64_t minute, uint64_t second,
+                         uint64_t microsecond, int64_t *day, uint64_t *micros);
+
+/*
+ * The reading of an instant. Refused, in this order: 8, 9, 19 (before micros
+ * 42184000 of day 41317), 20 (at micros 69184000 of day 60854, or later). Each
+ * instant between has exactly one reading, from which enfys_utc_to_tt leads back.
+ */
+uint32_t enfys_tt_to_utc(int64_t day, uint64_t micros, uint64_t *year,
+                         uint64_t *month, uint64_t *day_of_month, uint64_t *hour,
+                         uint64_t *minute, uint64_t *second, uint64_t *microsecond);
+
+/*
  * Each number by itself
  *
  * Each call below gives one number of a whole answer above, for the same inputs.
@@ -302,6 +346,27 @@ int32_t enfys_record_ut1(const uint8_t *bytes, size_t length);
 int32_t enfys_record_lod(const uint8_t *bytes, size_t length);
 int32_t enfys_record_rate(const uint8_t *bytes, size_t length);
 uint32_t enfys_record_refusal(const uint8_t *bytes, size_t length);
+
+/* (h) The instant of a reading, as in enfys_utc_to_tt. */
+int64_t enfys_utc_to_tt_day(uint64_t year, uint64_t month, uint64_t day_of_month,
+                            uint64_t hour, uint64_t minute, uint64_t second,
+                            uint64_t microsecond);
+uint64_t enfys_utc_to_tt_micros(uint64_t year, uint64_t month, uint64_t day_of_month,
+                                uint64_t hour, uint64_t minute, uint64_t second,
+                                uint64_t microsecond);
+uint32_t enfys_utc_to_tt_refusal(uint64_t year, uint64_t month, uint64_t day_of_month,
+                                 uint64_t hour, uint64_t minute, uint64_t second,
+                                 uint64_t microsecond);
+
+/* (h) The reading of an instant, as in enfys_tt_to_utc. */
+uint64_t enfys_tt_to_utc_year(int64_t day, uint64_t micros);
+uint64_t enfys_tt_to_utc_month(int64_t day, uint64_t micros);
+uint64_t enfys_tt_to_utc_day_of_month(int64_t day, uint64_t micros);
+uint64_t enfys_tt_to_utc_hour(int64_t day, uint64_t micros);
+uint64_t enfys_tt_to_utc_minute(int64_t day, uint64_t micros);
+uint64_t enfys_tt_to_utc_second(int64_t day, uint64_t micros);
+uint64_t enfys_tt_to_utc_microsecond(int64_t day, uint64_t micros);
+uint32_t enfys_tt_to_utc_refusal(int64_t day, uint64_t micros);
 
 #ifdef __cplusplus
 }

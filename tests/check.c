@@ -197,7 +197,7 @@ void lent_free(uint8_t *block, size_t size)
 }
 
 /* A number is the last bytes of its place; those before it are guards. Behind it nothing is mapped. */
-#define PLACES 5
+#define PLACES 7
 #define PLACE_BYTES 16
 
 static uint8_t *place[PLACES], expected[PLACES][PLACE_BYTES];

@@ -79,6 +79,12 @@ void fill_places(size_t count);
 int whole(const char *call, uint32_t got, uint32_t refusal, const struct number *want, size_t count);
 extern char places_got[], places_expected[];
 
+/* The seven fields f of a date and a time of day: for a message, and as arguments. */
+#define FIELDS                                                                                                         \
+    "%" PRIu64 "-%" PRIu64 "-%" PRIu64 " %" PRIu64 ":%" PRIu64 ":%" PRIu64 ", microsecond %" PRIu64, f[0], f[1], f[2], \
+        f[3], f[4], f[5], f[6]
+#define SEVEN f[0], f[1], f[2], f[3], f[4], f[5], f[6]
+
 /* A random number: of 64 bits, from 0 to n - 1, from low to high. */
 uint64_t any(void);
 uint64_t below(uint64_t n);

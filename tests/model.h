@@ -75,6 +75,10 @@ uint64_t model_uncertainty(struct instant at);
 #define MODEL_ROWS 30
 int64_t model_row_day(int row);
 
+/* UTC readings, in the fields of model_instant, and instants (model_utc.c). */
+uint32_t model_utc_to_tt(const uint64_t field[7], struct instant *at);
+uint32_t model_tt_to_utc(struct instant at, uint64_t field[7]);
+
 /* Records and runs (model_record.c). */
 uint32_t model_write(const struct record *record, uint8_t *buffer, size_t length);
 uint32_t model_read(const uint8_t *bytes, size_t length, struct record *record);

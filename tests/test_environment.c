@@ -11,7 +11,7 @@
 #include <fenv.h>
 #include <xmmintrin.h>
 
-#define NUMBERS 64
+#define NUMBERS 96
 #define FLUSH_TO_ZERO 0x8040u /* of results and of operands */
 
 static const int directions[] = {FE_UPWARD, FE_DOWNWARD, FE_TOWARDZERO};
@@ -19,8 +19,8 @@ static const int directions[] = {FE_UPWARD, FE_DOWNWARD, FE_TOWARDZERO};
 /* The numbers of an instant by the calls that give a whole answer; a record is read from `bytes`. */
 static int whole_answers(int64_t day, uint64_t micros, const uint8_t bytes[ENFYS_RECORD_BYTES], uint64_t *number)
 {
-    int64_t i[7] = {0};
-    uint64_t u[8] = {0};
+    int64_t i[8] = {0};
+    uint64_t u[16] = {0};
     int32_t s[6] = {0};
     double tide[2] = {0.0, 0.0};
     int n = 0;
@@ -34,14 +34,35 @@ static int whole_answers(int64_t day, uint64_t micros, const uint8_t bytes[ENFYS
     number[n++] = enfys_zonal(day, micros, &s[0], &s[1], &s[2]);
     number[n++] = enfys_nutation(day, micros, &i[4], &i[5], &u[6]);
     number[n++] = enfys_record_read(bytes, ENFYS_RECORD_BYTES, &i[6], &u[7], &s[3], &s[4], &s[5]);
-    for (int k = 0; k < 7; k++)
-        number[n++] = (uint64_t)i[k];
+    number[n++] = enfys_utc_to_tt(u[0], u[1], u[2], 23, 59, 59, micros % 1000000, &i[7], &u[8]);
+    number[n++] = enfys_tt_to_utc(day, micros, &u[9], &u[10], &u[11], &u[12], &u[13], &u[14], &u[15]);
     for (int k = 0; k < 8; k++)
+        number[n++] = (uint64_t)i[k];
+    for (int k = 0; k < 16; k++)
         number[n++] = u[k];
     for (int k = 0; k < 6; k++)
         number[n++] = (uint64_t)s[k];
     for (int k = 0; k < 2; k++)
         number[n++] = MISTAKE(62, 0, bits_of(tide[k]));
+    return n;
+}
+
+/* The numbers of an instant in UTC, and those of a UTC time of its date. */
+static int utc(int64_t day, uint64_t micros, uint64_t year, uint64_t month, uint64_t date, uint64_t *number)
+{
+    int n = 0;
+
+    number[n++] = (uint64_t)enfys_utc_to_tt_day(year, month, date, 23, 59, 59, micros % 1000000);
+    number[n++] = enfys_utc_to_tt_micros(year, month, date, 23, 59, 59, micros % 1000000);
+    number[n++] = enfys_utc_to_tt_refusal(year, month, date, 23, 59, 59, micros % 1000000);
+    number[n++] = enfys_tt_to_utc_year(day, micros);
+    number[n++] = enfys_tt_to_utc_month(day, micros);
+    number[n++] = enfys_tt_to_utc_day_of_month(day, micros);
+    number[n++] = enfys_tt_to_utc_hour(day, micros);
+    number[n++] = enfys_tt_to_utc_minute(day, micros);
+    number[n++] = enfys_tt_to_utc_second(day, micros);
+    number[n++] = enfys_tt_to_utc_microsecond(day, micros);
+    number[n++] = enfys_tt_to_utc_refusal(day, micros);
     return n;
 }
 
@@ -86,6 +107,7 @@ static int answers(int64_t day, uint64_t micros, uint64_t number[NUMBERS])
     number[n++] = enfys_record_refusal(run, sizeof run);
     number[n++] = MISTAKE(61, 0, bits_of(enfys_tide_frequency(day, micros, 2, -1, 3, 0, 1, -2)));
     number[n++] = MISTAKE(61, 0, bits_of(enfys_tide_phase(day, micros, 2, -1, 3, 0, 1, -2)));
+    n += utc(day, micros, year, month, date, number + n);
     return n + whole_answers(day, micros, run, number + n);
 }
 
