@@ -9,7 +9,7 @@ use Rattle.calendar.specs.Limits.{secondMicros}
 use Rattle.calendar.specs.Dates.{leapYear, monthLengths, sum, yearLength, daysOfYears, daysBefore, dateIndex}
 use Rattle.utc.specs.Table.{firstStep, expiry, taiMinusUtc, hasSecond60}
 use Rattle.utc.specs.Conversions.{dayBegins}
-use Rattle.utc.proofs.Steps.{extra, next-tai, tai-most, stepDays, tai-count}
+use Rattle.utc.proofs.Steps.{extra, next-tai, tai-most, tai-first, tai-last}
 
 -- the first day of the list, and the day on which it expires
 pub first-index : dateIndex (firstStep .from) ≡ 135870
@@ -47,13 +47,9 @@ begins-later n k h = by (decLe k n)
 
 -- the list covers a time from the beginning of its first day to that of the day on which it expires
 pub first-begins : dayBegins (dateIndex (firstStep .from)) ≡ 14_895_144_042_184_000
-unfolding dayBegins stepDays
-first-begins =
-    let k : 10 ≡ taiMinusUtc 135870 = tai-count 135870 0 (record { most = omega arith; low = λ j e. omega (arith, e); high = λ h. omega arith }) in
-    rw (first-index, ← k) refl
+unfolding dayBegins
+first-begins = rw (first-index, tai-first 135870 (omega arith)) refl
 
 pub expiry-begins : dayBegins (dateIndex expiry) ≡ 16_583_140_869_184_000
-unfolding dayBegins stepDays
-expiry-begins =
-    let k : 37 ≡ taiMinusUtc 155407 = tai-count 155407 27 (record { most = omega arith; low = λ j e. let f : j ≡ 26 = omega (arith, e) in rw f (omega arith); high = λ h. omega (arith, h) }) in
-    rw (expiry-index, ← k) refl
+unfolding dayBegins
+expiry-begins = rw (expiry-index, tai-last 155407 (omega arith)) refl

@@ -21,7 +21,7 @@ use Rattle.utc.specs.Table.{Step, laterSteps, taiMinusUtc, before, hasSe
 use Rattle.utc.specs.Claims.{eveOf, evesOf}
 use Rattle.utc.specs.Readings.{reading, readingIndex, readingCases, AcceptedReading}
 use Rattle.utc.specs.declared.Reading.{Reading}
-use Rattle.utc.proofs.Steps.{stepDays, tai-count, tai-most, next-tai}
+use Rattle.utc.proofs.Steps.{next-tai, tai-most, tai-first, tai-last}
 use Rattle.utc.proofs.Readings.{LastSecond, usual, longer, last-second, Held, none-held, held-none}
 
 record IsEve (t : Date) (r : Step) : Type 0 where
@@ -61,27 +61,21 @@ has-second-60 ts h s v = before-eves ts laterSteps h s v
 -- ---- second 60 is accepted there and nowhere else
 
 -- a day that has a second 60 is covered by the list: TAI - UTC is a second more on the next day, so it is neither 10 there nor 37 before
+sixty-grows : (n : ℕ) → hasSecond60 n ≡ true → taiMinusUtc (n + 1) ≡ taiMinusUtc n + 1
+sixty-grows n h = rw h at (next-tai n)
+
 sixty-from : (n : ℕ) → hasSecond60 n ≡ true → 135870 ≤ n
-unfolding stepDays
 sixty-from n h = by (decLe 135870 n)
   where
     by : Dec (135870 ≤ n) → 135870 ≤ n
     by (yes p) = p
-    by (no p) =
-        let k : 10 ≡ taiMinusUtc (n + 1) = tai-count (n + 1) 0 (record { most = omega arith; low = λ j e. omega (arith, e); high = λ _. omega (arith, p) }) in
-        let l : 10 ≡ taiMinusUtc n = tai-count n 0 (record { most = omega arith; low = λ j e. omega (arith, e); high = λ _. omega (arith, p) }) in
-        let g : taiMinusUtc (n + 1) ≡ taiMinusUtc n + 1 = rw h at (next-tai n) in
-        omega (arith, g, k, l)
+    by (no p) = omega (arith, sixty-grows n h, tai-first n (omega (arith, p)), tai-first (n + 1) (omega (arith, p)))
 
 sixty-to : (n : ℕ) → hasSecond60 n ≡ true → n < 155407
-unfolding stepDays
 sixty-to n h = by (decLe 155407 n)
   where
     by : Dec (155407 ≤ n) → n < 155407
-    by (yes p) =
-        let k : 37 ≡ taiMinusUtc n = tai-count n 27 (record { most = omega arith; low = λ j e. let f : j ≡ 26 = omega (arith, e) in rw f (omega (arith, p)); high = λ l. omega (arith, l) }) in
-        let g : taiMinusUtc (n + 1) ≡ taiMinusUtc n + 1 = rw h at (next-tai n) in
-        omega (arith, g, k, tai-most (n + 1))
+    by (yes p) = omega (arith, sixty-grows n h, tai-last n (omega (arith, p)), tai-most (n + 1))
     by (no p) = omega (arith, p)
 
 -- one of the dates is a date of the calendar

@@ -153,3 +153,12 @@ step-days = refl
 pub tai-count : (n k : ℕ) → LastBegun stepDays n k → 10 + k ≡ taiMinusUtc n
 unfolding taiMinusUtc firstStep
 tai-count n k b = sym (begun-count firstStep laterSteps rises n k (subst (λ (t : List ℕ). LastBegun t n k) step-days b))
+
+-- before the first of these steps, and from the last on
+pub tai-first : (n : ℕ) → n < 136052 → taiMinusUtc n ≡ 10
+unfolding stepDays
+tai-first n h = sym (tai-count n 0 (record { most = omega arith; low = λ j e. omega (arith, e); high = λ _. h }))
+
+pub tai-last : (n : ℕ) → 152307 ≤ n → taiMinusUtc n ≡ 37
+unfolding stepDays
+tai-last n h = sym (tai-count n 27 (record { most = omega arith; low = λ j e. let f : j ≡ 26 = omega (arith, e) in rw f h; high = λ l. omega (arith, l) }))

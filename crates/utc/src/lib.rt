@@ -182,7 +182,7 @@ fn tt_minus_utc(n: u64) -> u64
 }
 
 // The instant of the time u of the UTC day of index n.
-pub fn tt_at(n: u64, u: u64) -> Instant
+fn tt_at(n: u64, u: u64) -> Instant
     requires index { ⌜ n < daysCovered ⌝ }
     requires micros { ⌜ u < 2 * dayMicros ⌝ }
     ensures { λ r. ⌜ r ≡ ttAt n u ⌝ }

@@ -1,8 +1,6 @@
 -- `utc::tai_minus_utc` meets its contract: the days of the code's table are those of the list's rows after the first. Assumes nothing.
-use mathlib.Core.Path.{_≡_}
 use native.Mathlib.Omega.{arith}
 use borrow.Author.Needs.{needs}
-use Rattle.utc.specs.Table.{taiMinusUtc}
 use Rattle.utc.proofs.Steps.{stepDays, tai-count, tai-most}
 use Rattle.utc.proofs.tai_minus_utc.Statement.{statement}
 use Rattle.utc.proofs.tai_minus_utc.Tie as tie
