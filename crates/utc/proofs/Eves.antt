@@ -53,7 +53,7 @@ before-eves (t ∷ ts) (r ∷ rs) h s v =
     let e : IsEve t r = is-eve t r (a .0) in
     rw (← e .index, one-more (dateIndex s) (dateIndex t), same-index s t v (e .valid), before-eves ts rs (a .1) s v) refl
 
--- PROMISE. Where the dates ts are the days before the steps after the first, a date has a second 60 exactly when it is one of them.
+-- Where the dates ts are the days before the steps after the first, a date has a second 60 exactly when it is one of them.
 pub has-second-60 : (ts : List Date) → T (evesOf ts laterSteps) → (s : Date) → Valid s → hasSecond60 (dateIndex s) ≡ oneOf (s .year) (s .month) (s .day) ts
 unfolding hasSecond60
 has-second-60 ts h s v = before-eves ts laterSteps h s v

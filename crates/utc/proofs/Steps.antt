@@ -131,7 +131,7 @@ begun-count r (q ∷ qs) t n (suc k) b =
 
 -- ---- of the table
 
--- PROMISE. TAI - UTC grows by a second after a day that has a second 60, and after no other.
+-- TAI - UTC grows by a second after a day that has a second 60, and after no other.
 pub next-tai : (n : ℕ) → taiMinusUtc (n + 1) ≡ taiMinusUtc n + extra (hasSecond60 n)
 unfolding taiMinusUtc hasSecond60
 next-tai n = next-begun firstStep laterSteps rises n
