@@ -1,14 +1,13 @@
 -- The refusals of UTC readings and of instants out of the list's reach, in the figures of specs/AnyInput.antt: where the cases before them do not apply,
 -- dates in their order have rising indices, and days with their microseconds rising moments. Assumes nothing.
-use Prim.Native.Nat.{ℕ, _+_, _-_, _*_, _≤_, _<_}
+use Prim.Native.Nat.{ℕ, _+_, _-_, _≤_, _<_}
 use mathlib.Core.Path.{_≡_, refl, sym, _∙_, ap}
-use mathlib.Core.Bool.{Bool, true, false, cond, not, _&&_, _||_}
+use mathlib.Core.Bool.{not, _&&_, _||_}
 use mathlib.Core.List.{List, [], _∷_, _++_}
 use native.Mathlib.Omega.{arith}
 use native.Mathlib.Decide.{decLe}
-use lib.Dec.{T, eqb, ltb, leb}
+use lib.Dec.{T, ltb, leb}
 use lib.IntN.{ℤ, pos}
-use lib.Signed.{ltZ, leZ}
 use borrow.Author.Tests.{lt-ltb, le-ltb, le-leb, lt-leb}
 use Rattle.instants.specs.Limits.{dayMicros, indexOffset}
 use Rattle.instants.specs.Refusals.{Case, firstRefusal}
@@ -19,13 +18,11 @@ use Rattle.instants.proofs.Signs.{day-natural}
 use Rattle.instants.proofs.Accepted.{AcceptedAt, none-accepted}
 use Rattle.calendar.specs.Dates.{date, leapYear, monthLengths, sum, monthLength, yearLength, daysOfYears, daysBefore, dateIndex, dateCases}
 use Rattle.calendar.specs.Times.{timeCases, instantRefusalOf}
-use Rattle.calendar.specs.Claims.{earlier, oneOf}
-use Rattle.calendar.specs.declared.Date.{Date}
 use Rattle.calendar.specs.declared.InstantAnswer.the-variants.{NoInstant}
 use Rattle.calendar.proofs.Dates.{Valid}
 use Rattle.calendar.proofs.Inverse.{none-date, valid}
 use Rattle.calendar.proofs.Order.{earlier-index}
-use Rattle.utc.specs.Table.{firstStep, laterSteps, expiry, hasSecond60}
+use Rattle.utc.specs.Table.{firstStep, laterSteps, expiry}
 use Rattle.utc.specs.Readings.{readingIndex, lastSecond, coverCases, readingCases}
 use Rattle.utc.specs.Conversions.{ttOf, momentCases, utcOf, readingRefusalOf}
 use Rattle.utc.specs.declared.Reading.{Reading}
@@ -33,7 +30,7 @@ use Rattle.utc.specs.declared.ReadingAnswer.the-variants.{NoReading}
 use Rattle.utc.proofs.Days.{first-begins, expiry-begins}
 use Rattle.utc.specs.Claims.{eveOf, evesOf}
 use Rattle.utc.proofs.Eves.{has-second-60}
-use Rattle.promises.specs.AnyInput.{refusal4, refusal5, refusal6-utc, refusal7, refusal8, refusal9, refusal19-utc, refusal20-utc, refusal19-tt, refusal20-tt, daysWithSecond60}
+use Rattle.promises.specs.AnyInput.{refusal4, refusal5, refusal6-utc, refusal7, refusal19-utc, refusal20-utc, refusal19-tt, refusal20-tt, daysWithSecond60}
 
 -- PROMISE. The 27 days of the figures are the days before the steps after the first.
 pub eves : T (evesOf daysWithSecond60 laterSteps)

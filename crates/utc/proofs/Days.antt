@@ -1,13 +1,12 @@
 -- UTC days as they follow one another in TT: the next begins a day later, or a day and a second where there is a second 60. Assumes nothing.
-use Prim.Native.Nat.{ℕ, suc, _+_, _-_, _*_, _≤_, _<_}
-use mathlib.Core.Path.{_≡_, refl, ap, sym, _∙_, subst}
-use mathlib.Core.Bool.{Bool, true, false, cond}
+use Prim.Native.Nat.{ℕ, _+_, _-_, _*_, _≤_}
+use mathlib.Core.Path.{_≡_, refl}
 use native.Mathlib.Omega.{arith}
 use native.Mathlib.Decide.{decLe}
 use Rattle.instants.specs.Limits.{dayMicros}
 use Rattle.calendar.specs.Limits.{secondMicros}
 use Rattle.calendar.specs.Dates.{leapYear, monthLengths, sum, yearLength, daysOfYears, daysBefore, dateIndex}
-use Rattle.utc.specs.Table.{firstStep, expiry, taiMinusUtc, hasSecond60}
+use Rattle.utc.specs.Table.{firstStep, expiry, hasSecond60}
 use Rattle.utc.specs.Conversions.{dayBegins}
 use Rattle.utc.proofs.Steps.{extra, next-tai, tai-most, tai-first, tai-last}
 

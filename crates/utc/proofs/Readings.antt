@@ -1,7 +1,7 @@
 -- What an accepted reading has, and its time of day: its microseconds are fewer than its day has, and the hour, minute, second and microsecond of these
 -- are its own; by whether the second is 60. Assumes nothing.
 use Prim.Native.Nat.{ℕ, _+_, _-_, _*_, _/_, _%_, _≤_, _<_}
-use mathlib.Core.Path.{_≡_, refl, sym, _∙_, ap}
+use mathlib.Core.Path.{_≡_, refl, sym, _∙_}
 use mathlib.Core.Bool.{Bool, true, false, true≢false, cond, _&&_}
 use mathlib.Core.List.{_++_}
 use native.Mathlib.Omega.{arith}
@@ -16,7 +16,7 @@ use Rattle.calendar.specs.Dates.{dateIndex, dateCases}
 use Rattle.calendar.specs.Times.{microsOfTime, timeCases}
 use Rattle.calendar.proofs.Inverse.{AcceptedDate, none-date, date-none}
 use Rattle.utc.specs.Table.{firstStep, expiry, hasSecond60}
-use Rattle.utc.specs.Readings.{readingIndex, readingMicros, lastSecond, coverCases, readingCases, AcceptedReading}
+use Rattle.utc.specs.Readings.{readingIndex, readingMicros, lastSecond, coverCases, readingCases}
 use Rattle.utc.specs.Conversions.{minuteOfDay}
 use Rattle.utc.specs.Inner.{utcTime, readingAcceptance}
 use Rattle.utc.specs.declared.Reading.{Reading}
