@@ -5,18 +5,19 @@ use mathlib.Core.Path.{_≡_, refl, sym, _∙_, subst}
 use mathlib.Core.Bool.{Bool, true, false}
 use mathlib.Core.List.{List, [], _∷_}
 use native.Mathlib.Omega.{arith}
-use lib.Dec.{T, eqb, leb, eqb→eq, leb→le}
+use lib.Dec.{T, eqb, eqb→eq}
 use borrow.Author.Tests.{eqb-true, eqb-false, eq-eqb, ne-eqb}
 use mathlib.Core.Logic.{⊎-elim}
 use native.Mathlib.Decide.{decLe}
 use mir.Facts.{and-yes, or-yes}
 use Rattle.instants.proofs.FirstRefusal.{none-answered, first-none}
-use Rattle.calendar.specs.Dates.{date, monthLength, dateIndex}
+use Rattle.instants.specs.Refusals.{firstRefusal}
+use Rattle.calendar.specs.Dates.{date, dateIndex, dateCases}
 use Rattle.calendar.specs.Claims.{same, oneOf}
 use Rattle.calendar.specs.declared.Date.{Date}
 use Rattle.calendar.proofs.Dates.{Valid}
 use Rattle.calendar.proofs.Order.{same-index}
-use Rattle.calendar.proofs.Inverse.{valid, in-range}
+use Rattle.calendar.proofs.Inverse.{none-date, valid, in-range}
 use Rattle.utc.specs.Table.{Step, laterSteps, taiMinusUtc, before, hasSecond60}
 use Rattle.utc.specs.Claims.{eveOf, evesOf}
 use Rattle.utc.specs.Readings.{reading, readingIndex, readingCases, AcceptedReading}
@@ -25,18 +26,14 @@ use Rattle.utc.proofs.Steps.{next-tai, tai-most, tai-first, tai-last}
 use Rattle.utc.proofs.Readings.{LastSecond, usual, longer, last-second, Held, none-held, held-none}
 
 record IsEve (t : Date) (r : Step) : Type 0 where
-  valid : Valid t
+  real : Valid t
   index : dateIndex t + 1 ≡ dateIndex (r .from)
 
 is-eve : (t : Date) (r : Step) → T (eveOf t r) → IsEve t r
 unfolding eveOf
 is-eve t r h =
-    let a : _ × _ = and-yes (leb 1600 (t .year)) _ h in
-    let b : _ × _ = and-yes (leb 1 (t .month)) _ (a .1) in
-    let c : _ × _ = and-yes (leb (t .month) 12) _ (b .1) in
-    let d : _ × _ = and-yes (leb 1 (t .day)) _ (c .1) in
-    let e : _ × _ = and-yes (leb (t .day) (monthLength (t .year) (t .month))) _ (d .1) in
-    record { valid = record { late = leb→le _ _ (a .0); one = leb→le _ _ (b .0); twelve = leb→le _ _ (c .0); first = leb→le _ _ (d .0); last = leb→le _ _ (e .0) }; index = eqb→eq _ _ (e .1) }
+    let a : _ × _ = and-yes (eqb (firstRefusal (dateCases (t .year) (t .month) (t .day))) 0) _ h in
+    record { real = valid _ _ _ (none-date _ _ _ (first-none (dateCases (t .year) (t .month) (t .day)) tt (eqb→eq _ _ (a .0)))); index = eqb→eq _ _ (a .1) }
 
 one-more : (a b : ℕ) → eqb (a + 1) (b + 1) ≡ eqb a b
 one-more a b = by (eqb a b) refl
@@ -51,7 +48,7 @@ before-eves [] [] h s v = refl
 before-eves (t ∷ ts) (r ∷ rs) h s v =
     let a : _ × _ = and-yes (eveOf t r) _ h in
     let e : IsEve t r = is-eve t r (a .0) in
-    rw (← e .index, one-more (dateIndex s) (dateIndex t), same-index s t v (e .valid), before-eves ts rs (a .1) s v) refl
+    rw (← e .index, one-more (dateIndex s) (dateIndex t), same-index s t v (e .real), before-eves ts rs (a .1) s v) refl
 
 -- Where the dates ts are the days before the steps after the first, a date has a second 60 exactly when it is one of them.
 pub has-second-60 : (ts : List Date) → T (evesOf ts laterSteps) → (s : Date) → Valid s → hasSecond60 (dateIndex s) ≡ oneOf (s .year) (s .month) (s .day) ts
@@ -83,7 +80,7 @@ one-valid : (ts : List Date) (rs : List Step) → T (evesOf ts rs) → (y m d : 
 unfolding evesOf oneOf
 one-valid (t ∷ ts) (r ∷ rs) h y m d o =
     let a : _ × _ = and-yes (eveOf t r) _ h in
-    ⊎-elim (λ p. is t (is-eve t r (a .0) .valid) y m d p) (λ p. one-valid ts rs (a .1) y m d p) (or-yes (same y m d t) _ o)
+    ⊎-elim (λ p. is t (is-eve t r (a .0) .real) y m d p) (λ p. one-valid ts rs (a .1) y m d p) (or-yes (same y m d t) _ o)
   where
     is : (t : Date) → Valid t → (y m d : ℕ) → T (same y m d t) → Valid (date y m d)
     is t v y m d p =
