@@ -4,7 +4,7 @@ use Rattle.instants.specs.Instants.{outside, dayIndex, acceptance, dayAtIndex}
 use Rattle.calendar.specs.Dates.{leapYear, monthLengths, monthLength, sum, yearLength, daysOfYears, daysBefore, dateIndex, dayOf}
 use Rattle.instants.specs.declared.Instant.{Instant}
 use Rattle.calendar.specs.declared.InstantAnswer.the-variants.{AtInstant}
-use Rattle.utc.specs.Table.{firstStep, laterSteps, begun, taiMinusUtc, before, hasSecond60}
+use Rattle.utc.specs.Table.{firstStep, laterSteps, begun, taiMinusUtc, isEve, hasSecond60}
 use Rattle.utc.specs.Conversions.{ttOf, utcOf}
 use Rattle.utc.specs.declared.Reading.{Reading}
 use Rattle.utc.specs.declared.ReadingAnswer.the-variants.{AtReading}
@@ -31,5 +31,5 @@ there-and-back {r} {t} e = (e, reading-there-and-back r t e)
 
 -- PROMISE. Every row of the list of reference values holds.
 pub every-row : EveryRow rows
-unfolding EveryRow Says rows outside dayIndex acceptance leapYear monthLengths monthLength sum yearLength daysOfYears daysBefore dateIndex dayAtIndex dayOf splitOf joinOf wordSum recordBytes formRefusal readOf builtIn started place span interpolated uValue uParts uncertaintyAt offsetsAt nutationOf ttOf taiMinusUtc begun firstStep laterSteps hasSecond60 before
+unfolding EveryRow Says rows outside dayIndex acceptance leapYear monthLengths monthLength sum yearLength daysOfYears daysBefore dateIndex dayAtIndex dayOf splitOf joinOf wordSum recordBytes formRefusal readOf builtIn started place span interpolated uValue uParts uncertaintyAt offsetsAt nutationOf ttOf taiMinusUtc begun firstStep laterSteps hasSecond60 isEve
 every-row = refl ▹ refl ▹ refl ▹ refl ▹ refl ▹ refl ▹ refl ▹ refl ▹ refl ▹ refl ▹ refl ▹ (refl, refl) ▹ refl ▹ refl ▹ refl ▹ refl ▹ there-and-back refl ▹ there-and-back refl ▹ refl ▹ refl ▹ refl ▹ refl ▹ refl ▹ tt

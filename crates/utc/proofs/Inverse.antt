@@ -62,7 +62,7 @@ within-one n k x v w = by (decLe n k)
 within-same : (n k x : ℕ) → Within n x → Within k x → n ≡ k
 within-same n k x v w = omega (arith, within-one n k x v w, within-one k n x w v)
 
--- the list covers x where it covers its day
+-- the UTC day of a moment that the list covers is covered
 covered-from : (n x : ℕ) → Within n x → dayBegins (dateIndex (firstStep .from)) ≤ x → 135870 ≤ n
 covered-from n x w h = by (decLe 135870 n)
   where
@@ -79,7 +79,7 @@ covered-to n x w h = by (decLe 155407 n)
 
 -- ---- the instant of a time
 
--- the instant u microseconds after the beginning of the UTC day n has the moment of that, and is the only one of the TT day i that has
+-- the instant u microseconds after the beginning of the UTC day n has the moment that many after it
 pub moment-at : (n u : ℕ) →
     let s = u + ttMinusUtc n in
     moment (n + s / dayMicros) (s % dayMicros) ≡ dayBegins n + u

@@ -27,7 +27,7 @@ use Rattle.utc.proofs.Days.{first-index, expiry-index, dayLength}
 
 -- ---- the last second of a minute
 
--- it is 59, or 60 in the last minute of a day before a step
+-- it is 59, or 60 in the last minute of a day that has a second 60
 pub data LastSecond (n hour minute : ℕ) : ℕ → Type 0 where
   usual : LastSecond n hour minute 59
   longer : hour ≡ 23 → minute ≡ 59 → hasSecond60 n ≡ true → LastSecond n hour minute 60
@@ -147,7 +147,7 @@ held-less r h =
     let l = micros-less (readingIndex r) (r .hour) (r .minute) (r .second) (r .microsecond) (h .hours) (h .minutes) (h .microseconds) (h .seconds) in
     (l, omega (arith, l, extra-most (hasSecond60 (readingIndex r))))
 
--- and the microseconds of the minute, second and microsecond that u microseconds are in are u
+-- w is a minute of the day, and has begun u microseconds after 0 h
 pub record Minute (u w : ℕ) : Type 0 where
   pub below : w < 1440
   pub from : w * 60_000_000 ≤ u
