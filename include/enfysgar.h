@@ -44,8 +44,9 @@
  *   micros   microseconds of that day, from 0 to 86399999999.
  *   instant  a day and its micros, in Terrestrial Time (TT). An instant is
  *            accepted when neither 8 nor 9 applies to it.
- *   UTC      Coordinated Universal Time, which operators type. TT is ahead of it by
- *            32.184 s and the whole seconds of TAI - UTC, which leap seconds change.
+ *   UTC      Coordinated Universal Time, that of clocks and operators. TT is ahead of
+ *            it by 32.184 s and the whole seconds of TAI - UTC, which leap seconds
+ *            change.
  *   reading  a date and a time of day in UTC: year, month, day of the month, hour,
  *            minute, second, and microsecond of the second.
  *
@@ -99,7 +100,7 @@ enum {
     ENFYS_RUN_COUNT = 17,      /* number of records of a run outside 1..96 */
     ENFYS_RUN_STEP = 18,       /* step of a run outside 1..86400000000 microseconds */
     ENFYS_UTC_EARLY = 19,      /* UTC before 1972-01-01 */
-    ENFYS_UTC_EXPIRED = 20     /* UTC on 2025-06-28 or later: the table of leap
+    ENFYS_UTC_EXPIRED = 20     /* UTC on 2025-06-28 or later: the list of leap
                                   seconds has expired */
 };
 
@@ -110,7 +111,10 @@ enum {
 #define ENFYS_RECORD_BYTES 30
 #define ENFYS_RUN_RECORDS 96
 
-/* UTC days, as day numbers: the first, and that on which the table expires. */
+/*
+ * UTC days, as day numbers: the first, and that on which the list expires. Either
+ * begins some seconds into that day of TT: see enfys_tt_to_utc.
+ */
 #define ENFYS_UTC_FIRST_DAY INT64_C(41317)
 #define ENFYS_UTC_EXPIRY_DAY INT64_C(60854)
 
@@ -247,16 +251,18 @@ uint32_t enfys_run_write(int64_t day, uint64_t micros, uint64_t count,
 
 /*
  * (h) UTC readings to instants, and back. A reading has the fields of (b), in UTC.
- * Its instant is later by 32.184 s and TAI - UTC of its day, which is 10 s from
- * 1972-01-01 on and has stepped up by 1 s on 27 days since, the last time to 37 s on
- * 2017-01-01. The eve of each of the 27 ends with a leap second, second 60 of 23:59:
- * 2016-12-31 23:59:60.999999 is a reading, and a microsecond after it 2017 begins.
+ * In TT the same moment reads later, by 32.184 s and TAI - UTC of the UTC day. That
+ * is 10 s from 1972-01-01 on and has stepped up by 1 s on 27 days since, the last
+ * time to 37 s on 2017-01-01. The eve of each of the 27 ends with a leap second,
+ * second 60 of 23:59: 2016-12-31 23:59:60.999999 is a reading, and a microsecond
+ * after it 2017 begins.
  *
- * The table of leap seconds, from the IERS list, is built in and has an expiry day,
+ * The list of leap seconds, that of the IERS, is built in and has an expiry day,
  * 2025-06-28. The range of readings is from 1972-01-01 up to that day, without it.
  * From that day on there may be leap seconds that this version does not know: it
- * refuses rather than guesses. A new leap second, or the expiry day, needs a new
- * version of the library; with ENFYS_UTC_EXPIRY_DAY a daemon can warn ahead of it.
+ * refuses by 20 rather than guess. That day has passed, so that UTC of today is
+ * refused. A later list needs a later version of the library, in which
+ * ENFYS_UTC_EXPIRY_DAY tells a daemon how long it will do.
  */
 
 /*

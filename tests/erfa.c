@@ -35,8 +35,7 @@ static void date(int64_t day)
     dates++;
 }
 
-/* ERFA's status for a reading, and its quasi-JD of UTC: the day's 0 h, and the part of the day, which may have 86401 s.
- */
+/* ERFA's status for a reading, and its quasi-JD of UTC: 0 h, and the part of the day, which may have 86401 s. */
 static int quasi_jd(const uint64_t f[7], double utc[2])
 {
     return eraDtf2d("UTC", (int)f[0], (int)f[1], (int)f[2], (int)f[3], (int)f[4], (double)f[5] + (double)f[6] / 1e6,
@@ -88,8 +87,7 @@ static void both(const uint64_t f[7])
     instant((struct instant){enfys_utc_to_tt_day(SEVEN), enfys_utc_to_tt_micros(SEVEN)});
 }
 
-/* Second 60 at the end of a day: refused by 6 where ERFA warns (2) of a time after the day's end. 1 where it does not.
- */
+/* Second 60 at the end of a day: ours refuses it by 6 where ERFA warns (2). 1 where it does not warn. */
 static int day_end(uint64_t f[7])
 {
     double utc[2];

@@ -1,6 +1,6 @@
 /*
  * UTC readings and instants. Seconds are counted minute by minute: a minute of UTC has 60 of them, and 27
- * minutes have 61. TAI - UTC does not occur. Minutes and seconds are counted from 0 h of day 0.
+ * minutes have 61. Of TAI - UTC only the first value occurs. Minutes and seconds are counted from 0 h of day 0.
  */
 #include "model.h"
 
@@ -101,6 +101,8 @@ uint32_t model_tt_to_utc(struct instant at, uint64_t f[7])
     int64_t micros, second, minute;
 
     memset(f, 0, 7 * sizeof *f);
+    if (refusal == 9 && MISTAKE(96, 0, at.day * DAY_MINUTES < minute_of(first))) /* before 9 */
+        return 19;
     if (refusal)
         return refusal;
     micros = at.day * (int64_t)DAY_MICROS + (int64_t)at.micros - ahead();

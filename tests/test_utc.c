@@ -147,6 +147,8 @@ static void reference(void)
     }
     SAME_U(enfys_tt_to_utc_refusal(first.day, first.micros - 1), 19, "a microsecond before 1972");
     SAME_U(enfys_tt_to_utc_refusal(end.day, end.micros), 20, "0 h UTC of the expiry day");
+    to_utc((struct instant){first.day - 1, DAY_MICROS}); /* 9 comes before 19 and 20 */
+    to_utc((struct instant){end.day + 1, DAY_MICROS});
     for (int64_t micros = -2000; micros <= 2000; micros++) {
         to_utc(later(first, micros));
         to_utc(later(end, micros));

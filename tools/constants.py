@@ -1,5 +1,6 @@
 #!/usr/bin/env python3
-"""Works out the constants of the whole-number definitions from the rules (docs/RULES.md) and compares them with those in crates/*/specs/Ours.antt.
+"""Works out the constants of the whole-number definitions from the rules (docs/RULES.md) and compares them with those in crates/*/specs/Ours.antt;
+compares the rules' list of leap seconds with crates/utc/specs/Table.antt.
 The proofs do not rest on this: they show the distances for the constants as they stand. It says where the numbers come from."""
 
 import math
@@ -8,7 +9,8 @@ import sys
 from fractions import Fraction
 from pathlib import Path
 
-CRATES = Path(__file__).resolve().parent.parent / "crates"
+ROOT = Path(__file__).resolve().parent.parent
+CRATES = ROOT / "crates"
 DAY = 86_400_000_000
 CENTURY = 36_525 * DAY
 TURN = 3_600_000_000_000
@@ -52,7 +54,18 @@ def half(c):
     return [nearest(x) for x in [a0, g] + [Fraction(k * 2 ** (ANGLE + FINER), TURN) for k in c[2:]]]
 
 
+def leap_seconds():
+    """The rows of the definition and those of the rules: year, month, day, seconds."""
+    table = (CRATES / "utc" / "specs" / "Table.antt").read_text(encoding="utf-8")
+    rules = (ROOT / "docs" / "RULES.md").read_text(encoding="utf-8")
+    first = re.search(r"(\d+) from (\d{4})-(\d\d)-(\d\d) on \(`firstStep`\)", rules).groups()
+    later = re.findall(r"\| (\d{4})-(\d\d)-(\d\d) \| (\d\d) (?=\|)", rules)
+    stands = re.findall(r"\bstep (\d+) (\d+) (\d+) (\d+)", table)
+    return ([tuple(map(int, row)) for row in rows] for rows in (stands, sorted([(*first[1:], first[0]), *later])))
+
+
 def expected():
+    yield "leap seconds", *leap_seconds()
     sine, arguments, nutation = read("sine"), read("arguments"), read("nutation")
     terms = [nearest(QUARTER ** (2 * k + 1) / math.factorial(2 * k + 1) * 2**31) for k in range(8)]
     yield "sine, first constant", named(sine, "firstConstant"), terms[:1]

@@ -36,7 +36,7 @@ pub extern "C" fn enfys_utc_to_tt(
     }
 }
 
-// The day number of a UTC reading.
+// The day number of a UTC reading's instant.
 #[no_mangle]
 pub extern "C" fn enfys_utc_to_tt_day(
     year: u64,
@@ -55,7 +55,7 @@ pub extern "C" fn enfys_utc_to_tt_day(
     }
 }
 
-// The microseconds of a UTC reading, from 0 h TT on.
+// The microseconds of a UTC reading's instant, from 0 h TT on.
 #[no_mangle]
 pub extern "C" fn enfys_utc_to_tt_micros(
     year: u64,

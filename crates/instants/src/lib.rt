@@ -37,7 +37,7 @@ pub enum IndexAnswer {
     NoIndex,
 }
 
-// What was accepted, as a number (of an instant or a date, the index of its day), or the refusal number.
+// What was accepted, as a number (the index of the day of an instant or a date, the microseconds of a time of day), or the refusal number.
 pub enum Acceptance {
     Accepted(u64),
     NotAccepted(u32),

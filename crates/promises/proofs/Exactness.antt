@@ -1,12 +1,12 @@
 -- Demand 2 holds. Each field is proved from the theorem of its service that docs/PROMISES.md names. Assumes nothing.
-use Rattle.calendar.proofs.Inverse.{there-and-back, back-and-there, has-date, next-date}
-use Rattle.calendar.proofs.Times.{instant-accepted}
 use mathlib.Core.Path.{_≡_, refl}
 use lib.IntN.{pos}
+use Rattle.calendar.proofs.Inverse.{there-and-back, back-and-there, has-date, next-date}
+use Rattle.calendar.proofs.Times.{instant-accepted}
 use Rattle.instants.specs.Instants.{instant, outside, dayIndex, dayAtIndex}
 use Rattle.calendar.specs.Dates.{leapYear, monthLengths, monthLength, sum, yearLength, daysOfYears, daysBefore, dateIndex}
 use Rattle.calendar.specs.declared.InstantAnswer.the-variants.{AtInstant}
-use Rattle.utc.specs.Table.{firstStep, laterSteps, begun, taiMinusUtc, before, hasSecond60}
+use Rattle.utc.specs.Table.{firstStep, laterSteps, begun, taiMinusUtc, isEve, hasSecond60}
 use Rattle.utc.specs.Conversions.{ttOf, dayBegins, utcOf}
 use Rattle.utc.specs.Readings.{reading}
 use Rattle.utc.specs.declared.ReadingAnswer.the-variants.{NoReading}
@@ -15,8 +15,6 @@ use Rattle.utc.proofs.Inverse.{reading-there-and-back, instant-there-and-back}
 use Rattle.utc.proofs.Unique.{accepted-answered, answered-accepted, tt-accepted, one-reading, refused-unread, unread-refused}
 use Rattle.utc.proofs.Following.{next-second}
 use Rattle.utc.proofs.Eves.{sixty-only, sixty-there}
-use Rattle.promises.specs.AnyInput.{daysWithSecond60}
-use Rattle.promises.proofs.Utc.{eves}
 use Rattle.clock.proofs.Words.{split-accepted, split-then-join, JoinedExactly, joined-exactly}
 use Rattle.tide.proofs.Promises.{frequency-finite, phase-in-turn, zeros-give-zero}
 use Rattle.record.proofs.Round.{read-written}
@@ -26,25 +24,19 @@ use Rattle.record.proofs.Changed.{changed-byte}
 use Rattle.run.proofs.Records.{run-keeps}
 use Rattle.run.proofs.ReadBack.{record-place}
 use Rattle.instants.proofs.LaterInstants.{later-by}
+use Rattle.promises.specs.AnyInput.{daysWithSecond60}
+use Rattle.promises.proofs.Utc.{eves}
 use Rattle.promises.specs.Exactness.{Exactness}
 
 -- ---- some readings and instants, computed
 
-a-reading : ttOf (reading 2009 6 25 0 0 0 0) ≡ AtInstant (instant (pos 55007) 66_184_000)
-unfolding ttOf taiMinusUtc begun firstStep laterSteps hasSecond60 before dayAtIndex monthLength dateIndex daysOfYears daysBefore yearLength sum monthLengths leapYear
-a-reading = refl
-
-a-second-60 : ttOf (reading 2016 12 31 23 59 60 500_000) ≡ AtInstant (instant (pos 57754) 68_684_000)
-unfolding ttOf taiMinusUtc begun firstStep laterSteps hasSecond60 before dayAtIndex monthLength dateIndex daysOfYears daysBefore yearLength sum monthLengths leapYear
-a-second-60 = refl
-
-first-reading : ttOf (reading 1972 1 1 0 0 0 0) ≡ AtInstant (instant (pos 41317) 42_184_000)
-unfolding ttOf taiMinusUtc begun firstStep laterSteps hasSecond60 before dayAtIndex monthLength dateIndex daysOfYears daysBefore yearLength sum monthLengths leapYear
-first-reading = refl
-
-last-reading : ttOf (reading 2025 6 27 23 59 59 999_999) ≡ AtInstant (instant (pos 60854) 69_183_999)
-unfolding ttOf taiMinusUtc begun firstStep laterSteps hasSecond60 before dayAtIndex monthLength dateIndex daysOfYears daysBefore yearLength sum monthLengths leapYear
-last-reading = refl
+readings :
+    (ttOf (reading 2009 6 25 0 0 0 0) ≡ AtInstant (instant (pos 55007) 66_184_000))
+    × (ttOf (reading 2016 12 31 23 59 60 500_000) ≡ AtInstant (instant (pos 57754) 68_684_000))
+    × (ttOf (reading 1972 1 1 0 0 0 0) ≡ AtInstant (instant (pos 41317) 42_184_000))
+    × (ttOf (reading 2025 6 27 23 59 59 999_999) ≡ AtInstant (instant (pos 60854) 69_183_999))
+unfolding ttOf taiMinusUtc begun firstStep laterSteps hasSecond60 isEve dayAtIndex monthLength dateIndex daysOfYears daysBefore yearLength sum monthLengths leapYear
+readings = (refl, refl, refl, refl)
 
 before-and-after : (utcOf (pos 41317) 42_183_999 ≡ NoReading 19) × (utcOf (pos 60854) 69_184_000 ≡ NoReading 20)
 unfolding utcOf dayBegins outside dayIndex taiMinusUtc begun firstStep laterSteps dateIndex daysOfYears daysBefore yearLength sum monthLengths leapYear
@@ -83,8 +75,8 @@ exactness = record {
   second-60-only = sixty-only daysWithSecond60 eves;
   second-60-there = sixty-there daysWithSecond60 eves;
   time-runs-on = next-second;
-  a-reading = a-reading;
-  a-second-60 = a-second-60;
-  first-and-last = (reading-there-and-back _ _ first-reading, reading-there-and-back _ _ last-reading);
+  a-reading = readings .0;
+  a-second-60 = readings .1;
+  first-and-last = (reading-there-and-back _ _ (readings .2), reading-there-and-back _ _ (readings .3));
   before-and-after = before-and-after;
 }

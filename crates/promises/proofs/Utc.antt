@@ -1,14 +1,13 @@
 -- The refusals of UTC readings and of instants out of the list's reach, in the figures of specs/AnyInput.antt: where the cases before them do not apply,
 -- dates in their order have rising indices, and days with their microseconds rising moments. Assumes nothing.
-use Prim.Native.Nat.{ℕ, _+_, _-_, _*_, _≤_, _<_}
+use Prim.Native.Nat.{ℕ, _+_, _-_, _≤_, _<_}
 use mathlib.Core.Path.{_≡_, refl, sym, _∙_, ap}
-use mathlib.Core.Bool.{Bool, true, false, cond, not, _&&_, _||_}
+use mathlib.Core.Bool.{not, _&&_, _||_}
 use mathlib.Core.List.{List, [], _∷_, _++_}
 use native.Mathlib.Omega.{arith}
 use native.Mathlib.Decide.{decLe}
-use lib.Dec.{T, eqb, ltb, leb}
+use lib.Dec.{T, ltb, leb}
 use lib.IntN.{ℤ, pos}
-use lib.Signed.{ltZ, leZ}
 use borrow.Author.Tests.{lt-ltb, le-ltb, le-leb, lt-leb}
 use Rattle.instants.specs.Limits.{dayMicros, indexOffset}
 use Rattle.instants.specs.Refusals.{Case, firstRefusal}
@@ -19,13 +18,11 @@ use Rattle.instants.proofs.Signs.{day-natural}
 use Rattle.instants.proofs.Accepted.{AcceptedAt, none-accepted}
 use Rattle.calendar.specs.Dates.{date, leapYear, monthLengths, sum, monthLength, yearLength, daysOfYears, daysBefore, dateIndex, dateCases}
 use Rattle.calendar.specs.Times.{timeCases, instantRefusalOf}
-use Rattle.calendar.specs.Claims.{earlier, oneOf}
-use Rattle.calendar.specs.declared.Date.{Date}
 use Rattle.calendar.specs.declared.InstantAnswer.the-variants.{NoInstant}
 use Rattle.calendar.proofs.Dates.{Valid}
 use Rattle.calendar.proofs.Inverse.{none-date, valid}
 use Rattle.calendar.proofs.Order.{earlier-index}
-use Rattle.utc.specs.Table.{firstStep, laterSteps, expiry, hasSecond60}
+use Rattle.utc.specs.Table.{firstStep, laterSteps, expiry}
 use Rattle.utc.specs.Readings.{readingIndex, lastSecond, coverCases, readingCases}
 use Rattle.utc.specs.Conversions.{ttOf, momentCases, utcOf, readingRefusalOf}
 use Rattle.utc.specs.declared.Reading.{Reading}
@@ -33,12 +30,20 @@ use Rattle.utc.specs.declared.ReadingAnswer.the-variants.{NoReading}
 use Rattle.utc.proofs.Days.{first-begins, expiry-begins}
 use Rattle.utc.specs.Claims.{eveOf, evesOf}
 use Rattle.utc.proofs.Eves.{has-second-60}
-use Rattle.promises.specs.AnyInput.{refusal4, refusal5, refusal6-utc, refusal7, refusal8, refusal9, refusal19-utc, refusal20-utc, refusal19-tt, refusal20-tt, daysWithSecond60}
+use Rattle.promises.specs.AnyInput.{refusal4, refusal5, refusal6-utc, refusal7, refusal19-utc, refusal20-utc, refusal19-tt, refusal20-tt, daysWithSecond60}
 
 -- PROMISE. The 27 days of the figures are the days before the steps after the first.
 pub eves : T (evesOf daysWithSecond60 laterSteps)
 unfolding evesOf eveOf daysWithSecond60 laterSteps monthLength dateIndex daysOfYears daysBefore yearLength sum monthLengths leapYear
 eves = tt
+
+-- "at or after" is "not before"
+turned : (a b : ℕ) → leb a b ≡ not (ltb b a)
+turned a b = by (decLe a b)
+  where
+    by : Dec (a ≤ b) → leb a b ≡ not (ltb b a)
+    by (yes p) = rw (le-leb a b p, le-ltb b a p) refl
+    by (no p) = rw (lt-leb a b (omega (arith, p)), lt-ltb b a (omega (arith, p))) refl
 
 -- ---- a reading
 
@@ -63,13 +68,6 @@ module _ (r : Reading) where
   behind : Valid (date (r .year) (r .month) (r .day)) → firstRefusal ours ≡ firstRefusal figures
   unfolding firstStep
   behind v = rw (has-second-60 daysWithSecond60 eves _ v, earlier-index _ (firstStep .from) v first-valid, turned (dateIndex expiry) (readingIndex r), earlier-index _ expiry v expiry-valid) refl
-    where
-      turned : (a b : ℕ) → leb a b ≡ not (ltb b a)
-      turned a b = by (decLe a b)
-        where
-          by : Dec (a ≤ b) → leb a b ≡ not (ltb b a)
-          by (yes p) = rw (le-leb a b p, le-ltb b a p) refl
-          by (no p) = rw (lt-leb a b (omega (arith, p)), lt-ltb b a (omega (arith, p))) refl
 
   pub handed-readings : instantRefusalOf (ttOf r) ≡ firstRefusal (readingCases r)
   unfolding ttOf
@@ -80,30 +78,21 @@ module _ (r : Reading) where
 
 -- ---- an instant
 
--- a moment before the list begins, and one from which on it has expired, by the day e and its microseconds
-early : (e m : ℕ) → m < dayMicros → ltb (moment (e + indexOffset) m) 14_895_144_042_184_000 ≡ ltb e 41317 || (leb e 41317 && ltb m 42_184_000)
-early e m h = by (decLe 41317 e) (decLe e 41317) (decLe 42_184_000 m)
+-- moments are in the order of their days and microseconds
+in-order : (d e m n : ℕ) → m < dayMicros → n < dayMicros → ltb (moment (d + indexOffset) m) (moment (e + indexOffset) n) ≡ ltb d e || (leb d e && ltb m n)
+in-order d e m n h k = by (decLe e d) (decLe d e) (decLe n m)
   where
     x : ℕ
-    x = moment (e + indexOffset) m
+    x = moment (d + indexOffset) m
 
-    by : Dec (41317 ≤ e) → Dec (e ≤ 41317) → Dec (42_184_000 ≤ m) → ltb x 14_895_144_042_184_000 ≡ ltb e 41317 || (leb e 41317 && ltb m 42_184_000)
-    by (no p) q r = rw (lt-ltb e 41317 (omega (arith, p)), lt-ltb x 14_895_144_042_184_000 (omega (arith, p))) refl
-    by (yes p) (no q) r = rw (le-ltb e 41317 p, lt-leb e 41317 (omega (arith, q)), le-ltb x 14_895_144_042_184_000 (omega (arith, q))) refl
-    by (yes p) (yes q) (yes r) = rw (le-ltb e 41317 p, le-leb e 41317 q, le-ltb m 42_184_000 r, le-ltb x 14_895_144_042_184_000 (omega (arith, p, r))) refl
-    by (yes p) (yes q) (no r) = rw (le-ltb e 41317 p, le-leb e 41317 q, lt-ltb m 42_184_000 (omega (arith, r)), lt-ltb x 14_895_144_042_184_000 (omega (arith, q, r))) refl
+    y : ℕ
+    y = moment (e + indexOffset) n
 
-late : (e m : ℕ) → m < dayMicros → leb 16_583_140_869_184_000 (moment (e + indexOffset) m) ≡ ltb 60854 e || (leb 60854 e && leb 69_184_000 m)
-late e m h = by (decLe e 60854) (decLe 60854 e) (decLe 69_184_000 m)
-  where
-    x : ℕ
-    x = moment (e + indexOffset) m
-
-    by : Dec (e ≤ 60854) → Dec (60854 ≤ e) → Dec (69_184_000 ≤ m) → leb 16_583_140_869_184_000 x ≡ ltb 60854 e || (leb 60854 e && leb 69_184_000 m)
-    by (no p) q r = rw (lt-ltb 60854 e (omega (arith, p)), le-leb 16_583_140_869_184_000 x (omega (arith, p))) refl
-    by (yes p) (no q) r = rw (le-ltb 60854 e p, lt-leb 60854 e (omega (arith, q)), lt-leb 16_583_140_869_184_000 x (omega (arith, q))) refl
-    by (yes p) (yes q) (yes r) = rw (le-ltb 60854 e p, le-leb 60854 e q, le-leb 69_184_000 m r, le-leb 16_583_140_869_184_000 x (omega (arith, q, r))) refl
-    by (yes p) (yes q) (no r) = rw (le-ltb 60854 e p, le-leb 60854 e q, lt-leb 69_184_000 m (omega (arith, r)), lt-leb 16_583_140_869_184_000 x (omega (arith, p, r))) refl
+    by : Dec (e ≤ d) → Dec (d ≤ e) → Dec (n ≤ m) → ltb x y ≡ ltb d e || (leb d e && ltb m n)
+    by (no p) q r = rw (lt-ltb d e (omega (arith, p)), lt-ltb x y (omega (arith, p))) refl
+    by (yes p) (no q) r = rw (le-ltb d e p, lt-leb d e (omega (arith, q)), le-ltb x y (omega (arith, q))) refl
+    by (yes p) (yes q) (yes r) = rw (le-ltb d e p, le-leb d e q, le-ltb m n r, le-ltb x y (omega (arith, p, r))) refl
+    by (yes p) (yes q) (no r) = rw (le-ltb d e p, le-leb d e q, lt-ltb m n (omega (arith, r)), lt-ltb x y (omega (arith, q, r))) refl
 
 module _ (d : ℤ) (m : ℕ) where
   -- what is behind the instant's cases, in figures
@@ -112,7 +101,8 @@ module _ (d : ℤ) (m : ℕ) where
       let e = dayIndex d - indexOffset in
       let i : e + indexOffset ≡ dayIndex d = omega (arith, k .low) in
       let z : d ≡ pos e = k .is ∙ day-natural (dayIndex d) (omega (arith, k .low)) in
-      rw (first-begins, expiry-begins, ← i, early e m (k .less), late e m (k .less)) (ap (λ (d : ℤ). firstRefusal (refusal19-tt d m ∷ refusal20-tt d m ∷ [])) (sym z))
+      rw (first-begins, expiry-begins, turned 16_583_140_869_184_000 (momentOf d m), ← i, in-order e 41317 m 42_184_000 (k .less) (omega arith), in-order e 60854 m 69_184_000 (k .less) (omega arith))
+      (ap (λ (d : ℤ). firstRefusal (refusal19-tt d m ∷ refusal20-tt d m ∷ [])) (sym z))
 
   pub handed-instants : readingRefusalOf (utcOf d m) ≡ firstRefusal (instantCases d m ++ momentCases (momentOf d m))
   unfolding utcOf

@@ -125,12 +125,16 @@ refusal19-utc y m d = case 19 (earlier y m d (date 1972 1 1))
 abbrev pub refusal20-utc : (y m d : ℕ) → Case
 refusal20-utc y m d = case 20 (not (earlier y m d (date 2025 6 28)))
 
+-- the instant d, m is before e, n
+abbrev pub instantBefore : ℤ → ℕ → ℤ → ℕ → Bool
+instantBefore d m e n = ltZ d e || (leZ d e && ltb m n)
+
 -- an instant before 1972-01-01 0 h UTC, and one from 2025-06-28 0 h UTC on
 abbrev pub refusal19-tt : ℤ → ℕ → Case
-refusal19-tt d m = case 19 (ltZ d (pos 41317) || (leZ d (pos 41317) && ltb m 42_184_000))
+refusal19-tt d m = case 19 (instantBefore d m (pos 41317) 42_184_000)
 
 abbrev pub refusal20-tt : ℤ → ℕ → Case
-refusal20-tt d m = case 20 (ltZ (pos 60854) d || (leZ (pos 60854) d && leb 69_184_000 m))
+refusal20-tt d m = case 20 (not (instantBefore d m (pos 60854) 69_184_000))
 
 -- ---- the demand: each service by its list, its numbers, bytes that stay
 

@@ -103,7 +103,7 @@ pub record Exactness : Type 0 where
   -- the reading a second after an accepted one has the instant a second later, or the list expires there
   pub time-runs-on : (r : Reading) (t : Instant) → ttOf r ≡ AtInstant t
       → (ttOf (nextSecond r) ≡ AtInstant (instantSecondLater t)) ⊎ (ttOf (nextSecond r) ≡ NoInstant 20)
-  -- there are such: a reading and its instant, one in second 60, the last before the list expires, and instants that are refused on both sides
+  -- there are such: a reading and its instant, one in second 60, the first and the last microsecond that is answered, and the refused ones beside them
   pub a-reading : ttOf (reading 2009 6 25 0 0 0 0) ≡ AtInstant (instant (pos 55007) 66_184_000)
   pub a-second-60 : ttOf (reading 2016 12 31 23 59 60 500_000) ≡ AtInstant (instant (pos 57754) 68_684_000)
   pub first-and-last : (utcOf (pos 41317) 42_184_000 ≡ AtReading (reading 1972 1 1 0 0 0 0)) × (utcOf (pos 60854) 69_183_999 ≡ AtReading (reading 2025 6 27 23 59 59 999_999))

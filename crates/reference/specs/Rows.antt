@@ -5,6 +5,12 @@ use mathlib.Core.List.{List, [], _∷_}
 use lib.IntN.{ℤ, pos, negℤ}
 use Rattle.calendar.specs.Dates.{dayOf}
 use Rattle.calendar.specs.declared.DayAnswer.the-variants.{Day, NoDay}
+use Rattle.instants.specs.Instants.{instant}
+use Rattle.calendar.specs.declared.InstantAnswer.the-variants.{AtInstant, NoInstant}
+use Rattle.utc.specs.Readings.{reading}
+use Rattle.utc.specs.Conversions.{ttOf, utcOf}
+use Rattle.utc.specs.declared.Reading.{Reading}
+use Rattle.utc.specs.declared.ReadingAnswer.the-variants.{AtReading}
 use Rattle.clock.specs.Words.{words, timeWord, splitOf, joinOf}
 use Rattle.clock.specs.declared.SplitAnswer.the-variants.{Split}
 use Rattle.clock.specs.declared.JoinAnswer.the-variants.{NoJoin}
@@ -21,6 +27,8 @@ pub data Row : Type 0 where
   words-refused : (day time refusal : ℕ) → Row
   record-is : (day micros : ℕ) (ut1 lod rate : ℤ) (bytes : List ℕ) → Row
   uncertainty-is : (day micros uncertainty : ℕ) → Row
+  utc-is : (reading : Reading) (day micros : ℕ) → Row
+  utc-refused : (reading : Reading) (refusal : ℕ) → Row
 
 -- what a row says
 unfoldable pub Says : Row → Type 0
@@ -32,6 +40,8 @@ Says (record-is d m ut1 lod rate bytes) =
     (recordBytes (words (pos d) (timeWord (pos d) m)) ut1 lod rate ≡ bytes)
     × (readOf bytes ≡ IsRecord (recordWith (pos d) m ut1 lod rate))
 Says (uncertainty-is d m u) = uncertaintyOf (nutationOf (pos d) m) ≡ u
+Says (utc-is r d m) = (ttOf r ≡ AtInstant (instant (pos d) m)) × (utcOf (pos d) m ≡ AtReading r)
+Says (utc-refused r n) = ttOf r ≡ NoInstant n
 
 -- every row of a list
 unfoldable pub EveryRow : List Row → Type 0
@@ -58,4 +68,11 @@ rows =
     ∷ uncertainty-is 45699 0 39705
     ∷ uncertainty-is 45883 0 30840
     ∷ uncertainty-is 56294 0 3985
+    ∷ utc-is (reading 2009 6 25 0 0 0 0) 55007 66_184_000
+    ∷ utc-is (reading 2016 12 31 23 59 60 500_000) 57754 68_684_000
+    ∷ utc-refused (reading 2016 6 30 23 59 60 0) 6
+    ∷ utc-refused (reading 1971 12 31 23 59 60 0) 6
+    ∷ utc-refused (reading 1971 12 31 23 59 59 999_999) 19
+    ∷ utc-refused (reading 2025 6 27 23 59 60 0) 6
+    ∷ utc-refused (reading 2025 6 28 0 0 0 0) 20
     ∷ []

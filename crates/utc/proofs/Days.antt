@@ -1,13 +1,12 @@
 -- UTC days as they follow one another in TT: the next begins a day later, or a day and a second where there is a second 60. Assumes nothing.
-use Prim.Native.Nat.{ℕ, suc, _+_, _-_, _*_, _≤_, _<_}
-use mathlib.Core.Path.{_≡_, refl, ap, sym, _∙_, subst}
-use mathlib.Core.Bool.{Bool, true, false, cond}
+use Prim.Native.Nat.{ℕ, _+_, _*_, _≤_}
+use mathlib.Core.Path.{_≡_, refl}
 use native.Mathlib.Omega.{arith}
 use native.Mathlib.Decide.{decLe}
 use Rattle.instants.specs.Limits.{dayMicros}
 use Rattle.calendar.specs.Limits.{secondMicros}
 use Rattle.calendar.specs.Dates.{leapYear, monthLengths, sum, yearLength, daysOfYears, daysBefore, dateIndex}
-use Rattle.utc.specs.Table.{firstStep, expiry, taiMinusUtc, hasSecond60}
+use Rattle.utc.specs.Table.{firstStep, expiry, hasSecond60}
 use Rattle.utc.specs.Conversions.{dayBegins}
 use Rattle.utc.proofs.Steps.{extra, next-tai, tai-most, tai-first, tai-last}
 
@@ -28,7 +27,7 @@ pub next-begins : (n : ℕ) → dayBegins (n + 1) ≡ dayBegins n + dayLength n
 unfolding dayBegins
 next-begins n = omega (arith, next-tai n)
 
--- a day begins within seventy seconds of TT
+-- a UTC day begins 32.184 to 69.184 seconds after 0 h TT of its date
 pub begins-from : (n : ℕ) → (n + 36527) * dayMicros + 43_200_000_000 + 32_184_000 ≤ dayBegins n
 unfolding dayBegins
 begins-from n = omega arith

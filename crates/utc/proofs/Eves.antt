@@ -1,42 +1,39 @@
--- The days before the steps, as dates: a day has a second 60 exactly when it is one of the dates that a computed test finds to be those days. Assumes
+-- The days before the later rows, as dates: a day has a second 60 exactly when it is one of the dates that a computed test finds to be those days. Assumes
 -- nothing.
 use Prim.Native.Nat.{ℕ, _+_, _≤_, _<_}
 use mathlib.Core.Path.{_≡_, refl, sym, _∙_, subst}
-use mathlib.Core.Bool.{Bool, true, false, _&&_, _||_}
+use mathlib.Core.Bool.{Bool, true, false}
 use mathlib.Core.List.{List, [], _∷_}
 use native.Mathlib.Omega.{arith}
-use lib.Dec.{T, eqb, leb, eqb→eq, leb→le}
+use lib.Dec.{T, eqb, eqb→eq}
 use borrow.Author.Tests.{eqb-true, eqb-false, eq-eqb, ne-eqb}
 use mathlib.Core.Logic.{⊎-elim}
 use native.Mathlib.Decide.{decLe}
 use mir.Facts.{and-yes, or-yes}
 use Rattle.instants.proofs.FirstRefusal.{none-answered, first-none}
-use Rattle.calendar.specs.Dates.{date, monthLength, dateIndex}
+use Rattle.instants.specs.Refusals.{firstRefusal}
+use Rattle.calendar.specs.Dates.{date, dateIndex, dateCases}
 use Rattle.calendar.specs.Claims.{same, oneOf}
 use Rattle.calendar.specs.declared.Date.{Date}
 use Rattle.calendar.proofs.Dates.{Valid}
 use Rattle.calendar.proofs.Order.{same-index}
-use Rattle.calendar.proofs.Inverse.{valid, in-range}
-use Rattle.utc.specs.Table.{Step, laterSteps, taiMinusUtc, before, hasSecond60}
+use Rattle.calendar.proofs.Inverse.{none-date, valid, in-range}
+use Rattle.utc.specs.Table.{Step, laterSteps, taiMinusUtc, isEve, hasSecond60}
 use Rattle.utc.specs.Claims.{eveOf, evesOf}
 use Rattle.utc.specs.Readings.{reading, readingIndex, readingCases, AcceptedReading}
 use Rattle.utc.specs.declared.Reading.{Reading}
 use Rattle.utc.proofs.Steps.{next-tai, tai-most, tai-first, tai-last}
 use Rattle.utc.proofs.Readings.{LastSecond, usual, longer, last-second, Held, none-held, held-none}
 
-record IsEve (t : Date) (r : Step) : Type 0 where
-  valid : Valid t
+record Tied (t : Date) (r : Step) : Type 0 where
+  real : Valid t
   index : dateIndex t + 1 ≡ dateIndex (r .from)
 
-is-eve : (t : Date) (r : Step) → T (eveOf t r) → IsEve t r
+tied : (t : Date) (r : Step) → T (eveOf t r) → Tied t r
 unfolding eveOf
-is-eve t r h =
-    let a : _ × _ = and-yes (leb 1600 (t .year)) _ h in
-    let b : _ × _ = and-yes (leb 1 (t .month)) _ (a .1) in
-    let c : _ × _ = and-yes (leb (t .month) 12) _ (b .1) in
-    let d : _ × _ = and-yes (leb 1 (t .day)) _ (c .1) in
-    let e : _ × _ = and-yes (leb (t .day) (monthLength (t .year) (t .month))) _ (d .1) in
-    record { valid = record { late = leb→le _ _ (a .0); one = leb→le _ _ (b .0); twelve = leb→le _ _ (c .0); first = leb→le _ _ (d .0); last = leb→le _ _ (e .0) }; index = eqb→eq _ _ (e .1) }
+tied t r h =
+    let a : _ × _ = and-yes (eqb (firstRefusal (dateCases (t .year) (t .month) (t .day))) 0) _ h in
+    record { real = valid _ _ _ (none-date _ _ _ (first-none (dateCases (t .year) (t .month) (t .day)) tt (eqb→eq _ _ (a .0)))); index = eqb→eq _ _ (a .1) }
 
 one-more : (a b : ℕ) → eqb (a + 1) (b + 1) ≡ eqb a b
 one-more a b = by (eqb a b) refl
@@ -45,15 +42,15 @@ one-more a b = by (eqb a b) refl
     by true e = eq-eqb (a + 1) (b + 1) (omega (arith, eqb-true a b e))
     by false e = ne-eqb (a + 1) (b + 1) (λ f. eqb-false a b e (omega (arith, f)))
 
-before-eves : (ts : List Date) (rs : List Step) → T (evesOf ts rs) → (s : Date) → Valid s → before rs (dateIndex s) ≡ oneOf (s .year) (s .month) (s .day) ts
-unfolding evesOf before oneOf
+before-eves : (ts : List Date) (rs : List Step) → T (evesOf ts rs) → (s : Date) → Valid s → isEve rs (dateIndex s) ≡ oneOf (s .year) (s .month) (s .day) ts
+unfolding evesOf isEve oneOf
 before-eves [] [] h s v = refl
 before-eves (t ∷ ts) (r ∷ rs) h s v =
     let a : _ × _ = and-yes (eveOf t r) _ h in
-    let e : IsEve t r = is-eve t r (a .0) in
-    rw (← e .index, one-more (dateIndex s) (dateIndex t), same-index s t v (e .valid), before-eves ts rs (a .1) s v) refl
+    let e : Tied t r = tied t r (a .0) in
+    rw (← e .index, one-more (dateIndex s) (dateIndex t), same-index s t v (e .real), before-eves ts rs (a .1) s v) refl
 
--- PROMISE. Where the dates ts are the days before the steps after the first, a date has a second 60 exactly when it is one of them.
+-- Where the dates ts are the days before the later rows, a date has a second 60 exactly when it is one of them.
 pub has-second-60 : (ts : List Date) → T (evesOf ts laterSteps) → (s : Date) → Valid s → hasSecond60 (dateIndex s) ≡ oneOf (s .year) (s .month) (s .day) ts
 unfolding hasSecond60
 has-second-60 ts h s v = before-eves ts laterSteps h s v
@@ -78,12 +75,12 @@ sixty-to n h = by (decLe 155407 n)
     by (yes p) = omega (arith, sixty-grows n h, tai-last n (omega (arith, p)), tai-most (n + 1))
     by (no p) = omega (arith, p)
 
--- one of the dates is a date of the calendar
+-- each of the dates is a date of the calendar
 one-valid : (ts : List Date) (rs : List Step) → T (evesOf ts rs) → (y m d : ℕ) → T (oneOf y m d ts) → Valid (date y m d)
 unfolding evesOf oneOf
 one-valid (t ∷ ts) (r ∷ rs) h y m d o =
     let a : _ × _ = and-yes (eveOf t r) _ h in
-    ⊎-elim (λ p. is t (is-eve t r (a .0) .valid) y m d p) (λ p. one-valid ts rs (a .1) y m d p) (or-yes (same y m d t) _ o)
+    ⊎-elim (λ p. is t (tied t r (a .0) .real) y m d p) (λ p. one-valid ts rs (a .1) y m d p) (or-yes (same y m d t) _ o)
   where
     is : (t : Date) → Valid t → (y m d : ℕ) → T (same y m d t) → Valid (date y m d)
     is t v y m d p =

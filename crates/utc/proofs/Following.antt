@@ -1,8 +1,8 @@
 -- A second later. Within a minute, an hour or a day the microseconds of the day grow by a second; at the end of a day the next UTC day begins, as long
 -- after the day's beginning as the day is. So the moment grows by a second each time, and with it the instant. Assumes nothing.
-use Prim.Native.Nat.{ℕ, suc, _+_, _-_, _*_, _/_, _%_, _≤_, _<_}
+use Prim.Native.Nat.{ℕ, suc, _+_, _-_, _/_, _%_, _≤_, _<_}
 use mathlib.Core.Path.{_≡_, refl, sym, _∙_, ap, subst}
-use mathlib.Core.Bool.{Bool, true, false, cond, true≢false}
+use mathlib.Core.Bool.{Bool, true, false, cond}
 use mathlib.Core.Logic.{_⊎_, inl, inr}
 use native.Mathlib.Omega.{arith}
 use native.Mathlib.Decide.{decLe}
@@ -13,9 +13,7 @@ use Rattle.instants.specs.Limits.{dayMicros, indexOffset}
 use Rattle.instants.specs.Instants.{instant, dayAtIndex, laterDay, laterMicros}
 use Rattle.instants.specs.Moments.{moment}
 use Rattle.instants.specs.declared.Instant.{Instant}
-use Rattle.instants.proofs.FirstRefusal.{answered-none}
-use Rattle.instants.proofs.Impossible.{impossible}
-use Rattle.instants.proofs.Signs.{firstIndex, lastIndex}
+use Rattle.instants.proofs.Signs.{firstIndex}
 use Rattle.calendar.specs.Limits.{secondMicros}
 use Rattle.calendar.specs.Dates.{date, dateIndex, next}
 use Rattle.calendar.specs.Times.{microsOfTime}
@@ -24,14 +22,14 @@ use Rattle.calendar.specs.declared.InstantAnswer.the-variants.{AtInstant, NoIns
 use Rattle.calendar.proofs.Dates.{Steps, step}
 use Rattle.calendar.proofs.Inverse.{AcceptedDate, date-none, valid, in-range, number-pos}
 use Rattle.utc.specs.Table.{firstStep, expiry, ttMinusUtc, hasSecond60}
-use Rattle.utc.specs.Readings.{reading, readingIndex, readingMicros, lastSecond, readingCases}
+use Rattle.utc.specs.Readings.{reading, readingIndex, readingMicros, lastSecond}
 use Rattle.utc.specs.Conversions.{ttAt, ttOf, dayBegins}
 use Rattle.utc.specs.Claims.{instantSecondLater, nextSecond}
 use Rattle.utc.specs.declared.Reading.{Reading}
-use Rattle.utc.proofs.Steps.{extra, extra-most, tai-most}
-use Rattle.utc.proofs.Days.{first-index, expiry-index, dayLength, next-begins, begins-from}
-use Rattle.utc.proofs.Readings.{LastSecond, usual, longer, last-second, last-minute, Held, none-held, held-less}
-use Rattle.utc.proofs.Inverse.{moment-at, instant-at, held-instant}
+use Rattle.utc.proofs.Steps.{extra}
+use Rattle.utc.proofs.Days.{first-index, expiry-index, next-begins}
+use Rattle.utc.proofs.Readings.{LastSecond, usual, longer, last-second, last-minute, Held}
+use Rattle.utc.proofs.Inverse.{moment-at, instant-at, held-instant, answered-held}
 
 -- ---- the instant a second later
 
@@ -169,9 +167,6 @@ module _ (r : Reading) (h : Held r) where
 
 -- PROMISE. The reading a second after an accepted one has the instant a second later, or is refused because the list expires there.
 pub next-second : (r : Reading) (t : Instant) → ttOf r ≡ AtInstant t → (ttOf (nextSecond r) ≡ AtInstant (instantSecondLater t)) ⊎ (ttOf (nextSecond r) ≡ NoInstant 20)
-unfolding ttOf
 next-second r t e =
-    let a = answered-none NoInstant (readingCases r) (AtInstant (ttAt (readingIndex r) (readingMicros r))) (AtInstant t) (λ n p. impossible (cc)) e in
-    let g : AtInstant (ttAt (readingIndex r) (readingMicros r)) ≡ AtInstant t = a .1 in
-    let f : ttAt (readingIndex r) (readingMicros r) ≡ t = cc in
-    subst (λ (t : Instant). (ttOf (nextSecond r) ≡ AtInstant (instantSecondLater t)) ⊎ (ttOf (nextSecond r) ≡ NoInstant 20)) f (held-next r (none-held r (a .0)))
+    let a = answered-held r t e in
+    subst (λ (t : Instant). (ttOf (nextSecond r) ≡ AtInstant (instantSecondLater t)) ⊎ (ttOf (nextSecond r) ≡ NoInstant 20)) (a .1) (held-next r (a .0))

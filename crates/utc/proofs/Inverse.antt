@@ -2,14 +2,13 @@
 -- after the beginning of its UTC day as the reading says, and in that day. So the day, and with it the reading, is found again. Assumes nothing.
 use Prim.Native.Nat.{ℕ, _+_, _-_, _*_, _/_, _%_, _≤_, _<_}
 use mathlib.Core.Path.{_≡_, refl, sym, _∙_, ap, subst}
-use mathlib.Core.Bool.{Bool, true, false, cond}
 use mathlib.Core.List.{_++_}
 use native.Mathlib.Omega.{arith}
 use native.Mathlib.Decide.{decLe}
 use lib.IntN.{ℤ}
 use borrow.Author.Tests.{ltb-false, leb-false, lt-ltb, le-ltb, lt-leb}
 use Rattle.instants.specs.Limits.{dayMicros}
-use Rattle.instants.specs.Instants.{instant, outside, dayIndex, dayAtIndex, instantCases, IsAccepted}
+use Rattle.instants.specs.Instants.{instant, dayIndex, dayAtIndex, instantCases}
 use Rattle.instants.specs.Moments.{moment, momentOf}
 use Rattle.instants.specs.declared.Instant.{Instant}
 use Rattle.instants.proofs.FirstRefusal.{none-both, none-answered, answered-none}
@@ -21,12 +20,12 @@ use Rattle.calendar.specs.declared.Date.{Date}
 use Rattle.calendar.specs.declared.InstantAnswer.the-variants.{AtInstant, NoInstant}
 use Rattle.calendar.proofs.Dates.{Found, after, after-index}
 use Rattle.calendar.proofs.Inverse.{valid, in-range, number-inside, number-index}
-use Rattle.utc.specs.Table.{firstStep, expiry, ttMinusUtc, taiMinusUtc, hasSecond60}
+use Rattle.utc.specs.Table.{firstStep, expiry, ttMinusUtc}
 use Rattle.utc.specs.Readings.{reading, readingIndex, readingMicros, readingCases}
 use Rattle.utc.specs.Conversions.{ttAt, ttOf, dayBegins, momentCases, utcIndex, minuteOfDay, readingAt, readingOn, utcOf}
 use Rattle.utc.specs.declared.Reading.{Reading}
 use Rattle.utc.specs.declared.ReadingAnswer.the-variants.{AtReading, NoReading}
-use Rattle.utc.proofs.Steps.{tai-most, extra-most}
+use Rattle.utc.proofs.Steps.{tai-most}
 use Rattle.utc.proofs.Days.{first-index, expiry-index, dayLength, next-begins, begins-from, begins-to, begins-later}
 use Rattle.utc.proofs.Readings.{Held, none-held, held-none, held-less, minute-back, Minute, minute-of, second-at}
 
@@ -63,7 +62,7 @@ within-one n k x v w = by (decLe n k)
 within-same : (n k x : ℕ) → Within n x → Within k x → n ≡ k
 within-same n k x v w = omega (arith, within-one n k x v w, within-one k n x w v)
 
--- the list covers x where it covers its day
+-- the UTC day of a moment that the list covers is covered
 covered-from : (n x : ℕ) → Within n x → dayBegins (dateIndex (firstStep .from)) ≤ x → 135870 ≤ n
 covered-from n x w h = by (decLe 135870 n)
   where
@@ -80,7 +79,7 @@ covered-to n x w h = by (decLe 155407 n)
 
 -- ---- the instant of a time
 
--- the instant u microseconds after the beginning of the UTC day n has the moment of that, and is the only one of the TT day i that has
+-- the instant u microseconds after the beginning of the UTC day n has the moment that many after it
 pub moment-at : (n u : ℕ) →
     let s = u + ttMinusUtc n in
     moment (n + s / dayMicros) (s % dayMicros) ≡ dayBegins n + u
@@ -179,14 +178,19 @@ held-back r h =
     read-at (n + (u + ttMinusUtc n) / dayMicros) ((u + ttMinusUtc n) % dayMicros) n u (omega (arith, h .to, l .1, tai-most n)) (omega arith) (moment-at n u) (l .0) (h .from) (h .to)
     ∙ ap AtReading (reading-back r h)
 
--- PROMISE. The reading of an accepted reading's instant is that reading.
-pub reading-there-and-back : (r : Reading) (t : Instant) → ttOf r ≡ AtInstant t → utcOf (t .day) (t .micros) ≡ AtReading r
+-- a reading that has an instant is accepted, and the instant is that of its time
+pub answered-held : (r : Reading) (t : Instant) → ttOf r ≡ AtInstant t → Held r × (ttAt (readingIndex r) (readingMicros r) ≡ t)
 unfolding ttOf
-reading-there-and-back r t e =
+answered-held r t e =
     let a = answered-none NoInstant (readingCases r) (AtInstant (ttAt (readingIndex r) (readingMicros r))) (AtInstant t) (λ n p. impossible (cc)) e in
     let g : AtInstant (ttAt (readingIndex r) (readingMicros r)) ≡ AtInstant t = a .1 in
-    let f : ttAt (readingIndex r) (readingMicros r) ≡ t = cc in
-    subst (λ (t : Instant). utcOf (t .day) (t .micros) ≡ AtReading r) f (held-back r (none-held r (a .0)))
+    (none-held r (a .0), cc)
+
+-- PROMISE. The reading of an accepted reading's instant is that reading.
+pub reading-there-and-back : (r : Reading) (t : Instant) → ttOf r ≡ AtInstant t → utcOf (t .day) (t .micros) ≡ AtReading r
+reading-there-and-back r t e =
+    let a = answered-held r t e in
+    subst (λ (t : Instant). utcOf (t .day) (t .micros) ≡ AtReading r) (a .1) (held-back r (a .0))
 
 -- an accepted reading has its instant
 pub held-instant : (r : Reading) → Held r → ttOf r ≡ AtInstant (ttAt (readingIndex r) (readingMicros r))

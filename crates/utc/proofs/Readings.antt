@@ -1,7 +1,7 @@
 -- What an accepted reading has, and its time of day: its microseconds are fewer than its day has, and the hour, minute, second and microsecond of these
 -- are its own; by whether the second is 60. Assumes nothing.
 use Prim.Native.Nat.{ℕ, _+_, _-_, _*_, _/_, _%_, _≤_, _<_}
-use mathlib.Core.Path.{_≡_, refl, sym, _∙_, ap}
+use mathlib.Core.Path.{_≡_, refl, sym, _∙_}
 use mathlib.Core.Bool.{Bool, true, false, true≢false, cond, _&&_}
 use mathlib.Core.List.{_++_}
 use native.Mathlib.Omega.{arith}
@@ -16,7 +16,7 @@ use Rattle.calendar.specs.Dates.{dateIndex, dateCases}
 use Rattle.calendar.specs.Times.{microsOfTime, timeCases}
 use Rattle.calendar.proofs.Inverse.{AcceptedDate, none-date, date-none}
 use Rattle.utc.specs.Table.{firstStep, expiry, hasSecond60}
-use Rattle.utc.specs.Readings.{readingIndex, readingMicros, lastSecond, coverCases, readingCases, AcceptedReading}
+use Rattle.utc.specs.Readings.{readingIndex, readingMicros, lastSecond, coverCases, readingCases}
 use Rattle.utc.specs.Conversions.{minuteOfDay}
 use Rattle.utc.specs.Inner.{utcTime, readingAcceptance}
 use Rattle.utc.specs.declared.Reading.{Reading}
@@ -27,7 +27,7 @@ use Rattle.utc.proofs.Days.{first-index, expiry-index, dayLength}
 
 -- ---- the last second of a minute
 
--- it is 59, or 60 in the last minute of a day before a step
+-- it is 59, or 60 in the last minute of a day that has a second 60
 pub data LastSecond (n hour minute : ℕ) : ℕ → Type 0 where
   usual : LastSecond n hour minute 59
   longer : hour ≡ 23 → minute ≡ 59 → hasSecond60 n ≡ true → LastSecond n hour minute 60
@@ -147,7 +147,7 @@ held-less r h =
     let l = micros-less (readingIndex r) (r .hour) (r .minute) (r .second) (r .microsecond) (h .hours) (h .minutes) (h .microseconds) (h .seconds) in
     (l, omega (arith, l, extra-most (hasSecond60 (readingIndex r))))
 
--- and the microseconds of the minute, second and microsecond that u microseconds are in are u
+-- w is a minute of the day, and has begun u microseconds after 0 h
 pub record Minute (u w : ℕ) : Type 0 where
   pub below : w < 1440
   pub from : w * 60_000_000 ≤ u

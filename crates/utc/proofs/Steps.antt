@@ -1,6 +1,6 @@
 -- The table. Its rule is one computed test. From it, by induction on the rows: TAI - UTC is a second more on the day after exactly the days that have a
 -- second 60, is 10 to 37, and is 10 and the number of rows that have begun. Assumes nothing.
-use Prim.Native.Nat.{ℕ, zero, suc, _+_, _-_, _≤_, _<_}
+use Prim.Native.Nat.{ℕ, zero, suc, _+_, _≤_, _<_}
 use mathlib.Core.Path.{_≡_, refl, ap, sym, _∙_, subst}
 use mathlib.Core.Bool.{Bool, true, false, cond, _||_}
 use mathlib.Core.List.{List, [], _∷_}
@@ -11,7 +11,7 @@ use lib.ListN.{length, getD}
 use borrow.Author.Tests.{lt-ltb, le-ltb, eq-eqb, ne-eqb}
 use mir.Facts.{and-yes}
 use Rattle.calendar.specs.Dates.{leapYear, monthLengths, sum, yearLength, daysOfYears, daysBefore, dateIndex}
-use Rattle.utc.specs.Table.{Step, firstStep, laterSteps, begun, taiMinusUtc, before, hasSecond60}
+use Rattle.utc.specs.Table.{Step, firstStep, laterSteps, begun, taiMinusUtc, isEve, hasSecond60}
 use Rattle.utc.specs.Claims.{rising, lastSeconds, tableRule}
 use Rattle.utc.specs.Inner.{LastBegun}
 
@@ -41,20 +41,20 @@ rises-on r q qs t =
     let b : _ × _ = and-yes (eqb (q .seconds) (r .seconds + 1)) _ (a .1) in
     record { later = ltb→lt _ _ (a .0); more = eqb→eq _ _ (b .0); on = b .1 }
 
--- by a row's day none of those after it has begun, nor is the day before it before one of those
+-- by a row's day no later row has begun; and no day before it is the day before a later row
 not-begun : (r : Step) (rs : List Step) → T (rising r rs) → (s n : ℕ) → n ≤ dateIndex (r .from) → begun s rs n ≡ s
 unfolding begun
 not-begun r [] t s n h = refl
 not-begun r (q ∷ qs) t s n h = rw (lt-ltb n (dateIndex (q .from)) (omega (arith, rises-on r q qs t .later))) refl
 
-none-before : (r : Step) (rs : List Step) → T (rising r rs) → (n : ℕ) → n < dateIndex (r .from) → before rs n ≡ false
-unfolding before
+none-before : (r : Step) (rs : List Step) → T (rising r rs) → (n : ℕ) → n < dateIndex (r .from) → isEve rs n ≡ false
+unfolding isEve
 none-before r [] t n h = refl
 none-before r (q ∷ qs) t n h =
     let a : Rises r q qs = rises-on r q qs t in
     rw (ne-eqb (n + 1) (dateIndex (q .from)) (λ e. omega (arith, e, a .later))) (none-before q qs (a .on) n (omega (arith, a .later)))
 
--- a day later TAI - UTC is a second more after a day before a step, and else the same
+-- a day later TAI - UTC is a second more where that day is the day of a row, and else the same
 abbrev pub extra : Bool → ℕ
 extra b = cond b 1 0
 
@@ -62,8 +62,8 @@ pub extra-most : (b : Bool) → extra b ≤ 1
 extra-most true = omega arith
 extra-most false = omega arith
 
-next-begun : (r : Step) (rs : List Step) → T (rising r rs) → (n : ℕ) → begun (r .seconds) rs (n + 1) ≡ begun (r .seconds) rs n + extra (before rs n)
-unfolding begun before
+next-begun : (r : Step) (rs : List Step) → T (rising r rs) → (n : ℕ) → begun (r .seconds) rs (n + 1) ≡ begun (r .seconds) rs n + extra (isEve rs n)
+unfolding begun isEve
 next-begun r [] t n = omega arith
 next-begun r (q ∷ qs) t n = by (next-begun q qs (a .on) n) (decLe i n) (decLe i (n + 1))
   where
@@ -73,8 +73,8 @@ next-begun r (q ∷ qs) t n = by (next-begun q qs (a .on) n) (decLe i n) (decLe 
     a : Rises r q qs
     a = rises-on r q qs t
 
-    by : begun (q .seconds) qs (n + 1) ≡ begun (q .seconds) qs n + extra (before qs n) → Dec (i ≤ n) → Dec (i ≤ n + 1)
-        → cond (ltb (n + 1) i) (r .seconds) (begun (q .seconds) qs (n + 1)) ≡ cond (ltb n i) (r .seconds) (begun (q .seconds) qs n) + extra (eqb (n + 1) i || before qs n)
+    by : begun (q .seconds) qs (n + 1) ≡ begun (q .seconds) qs n + extra (isEve qs n) → Dec (i ≤ n) → Dec (i ≤ n + 1)
+        → cond (ltb (n + 1) i) (r .seconds) (begun (q .seconds) qs (n + 1)) ≡ cond (ltb n i) (r .seconds) (begun (q .seconds) qs n) + extra (eqb (n + 1) i || isEve qs n)
     by f (yes p) k = rw (le-ltb n i p, le-ltb (n + 1) i (omega (arith, p)), ne-eqb (n + 1) i (λ e. omega (arith, e, p))) f
     by f (no p) (yes k) =
         rw (lt-ltb n i (omega (arith, p)), le-ltb (n + 1) i k, eq-eqb (n + 1) i (omega (arith, p, k)))
@@ -101,7 +101,7 @@ unfoldable pub days : List Step → List ℕ
 days [] = []
 days (r ∷ rs) = dateIndex (r .from) ∷ days rs
 
--- no day of rows that rise is before the first
+-- every later row is of a later day than the first
 days-rise : (r : Step) (rs : List Step) → T (rising r rs) → (k : ℕ) → k < length (days rs) → dateIndex (r .from) < getD (days rs) k 0
 unfolding days
 days-rise r [] t k h = omega arith
@@ -131,7 +131,7 @@ begun-count r (q ∷ qs) t n (suc k) b =
 
 -- ---- of the table
 
--- PROMISE. TAI - UTC grows by a second after a day that has a second 60, and after no other.
+-- TAI - UTC grows by a second after a day that has a second 60, and after no other.
 pub next-tai : (n : ℕ) → taiMinusUtc (n + 1) ≡ taiMinusUtc n + extra (hasSecond60 n)
 unfolding taiMinusUtc hasSecond60
 next-tai n = next-begun firstStep laterSteps rises n

@@ -9,7 +9,7 @@ use lib.IntN.{ℤ}
 use Rattle.instants.specs.Instants.{instant, dayIndex, instantCases, IsAccepted}
 use Rattle.instants.specs.Moments.{momentOf}
 use Rattle.instants.specs.declared.Instant.{Instant}
-use Rattle.instants.proofs.FirstRefusal.{NoneApplies, none-both, none-answered, answered-none, first-none}
+use Rattle.instants.proofs.FirstRefusal.{none-both, none-answered, answered-none, first-none}
 use Rattle.instants.proofs.Impossible.{impossible}
 use Rattle.instants.proofs.Accepted.{AcceptedAt, accepted-at, accepted-none}
 use Rattle.calendar.specs.Dates.{dateIndex}
@@ -19,7 +19,8 @@ use Rattle.utc.specs.Readings.{readingIndex, readingMicros, readingCases
 use Rattle.utc.specs.Conversions.{ttAt, ttOf, dayBegins, momentCases, readingOn, utcOf, readingRefusalOf}
 use Rattle.utc.specs.declared.Reading.{Reading}
 use Rattle.utc.specs.declared.ReadingAnswer.the-variants.{AtReading, NoReading}
-use Rattle.utc.proofs.Inverse.{reading-there-and-back, instant-there-and-back}
+use Rattle.utc.proofs.Readings.{held-none}
+use Rattle.utc.proofs.Inverse.{answered-held, reading-there-and-back, instant-there-and-back}
 
 -- ---- accepted readings are those that have an instant
 
@@ -30,8 +31,7 @@ accepted-answered r e = none-answered NoInstant (readingCases r) _ (first-none (
 
 -- PROMISE. A reading that has one is accepted.
 pub answered-accepted : (r : Reading) (t : Instant) → ttOf r ≡ AtInstant t → AcceptedReading r
-unfolding ttOf
-answered-accepted r t e = none-answered (λ n. n) (readingCases r) 0 (answered-none NoInstant (readingCases r) _ (AtInstant t) (λ n p. impossible (cc)) e .0)
+answered-accepted r t e = none-answered (λ n. n) (readingCases r) 0 (held-none r (answered-held r t e .0))
 
 -- PROMISE. The instant is accepted.
 pub tt-accepted : (r : Reading) (t : Instant) → ttOf r ≡ AtInstant t → IsAccepted (t .day) (t .micros)

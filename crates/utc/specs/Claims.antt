@@ -2,12 +2,13 @@
 use Prim.Native.Nat.{ℕ, _+_}
 use mathlib.Core.Bool.{Bool, true, false, cond, _&&_}
 use mathlib.Core.List.{List, [], _∷_}
-use lib.Dec.{eqb, ltb, leb}
+use lib.Dec.{eqb, ltb}
 use lib.ListN.{length}
+use Rattle.instants.specs.Refusals.{firstRefusal}
 use Rattle.instants.specs.Instants.{instant, laterDay, laterMicros}
 use Rattle.instants.specs.declared.Instant.{Instant}
 use Rattle.calendar.specs.Limits.{secondMicros}
-use Rattle.calendar.specs.Dates.{date, monthLength, dateIndex, next}
+use Rattle.calendar.specs.Dates.{date, dateIndex, next, dateCases}
 use Rattle.calendar.specs.declared.Date.{Date}
 use Rattle.utc.specs.Table.{Step, firstStep, laterSteps}
 use Rattle.utc.specs.Readings.{reading, readingIndex, lastSecond}
@@ -28,9 +29,9 @@ unfoldable pub tableRule : Bool
 tableRule =
     eqb (length (firstStep ∷ laterSteps)) 28 && (eqb (firstStep .seconds) 10 && (eqb (lastSeconds firstStep laterSteps) 37 && rising firstStep laterSteps))
 
--- the date t is the day before the row r
+-- t is a date that is not refused, and the day before the row r
 unfoldable pub eveOf : Date → Step → Bool
-eveOf t r = leb 1600 (t .year) && (leb 1 (t .month) && (leb (t .month) 12 && (leb 1 (t .day) && (leb (t .day) (monthLength (t .year) (t .month)) && eqb (dateIndex t + 1) (dateIndex (r .from))))))
+eveOf t r = eqb (firstRefusal (dateCases (t .year) (t .month) (t .day))) 0 && eqb (dateIndex t + 1) (dateIndex (r .from))
 
 -- the dates are the days before the rows, one for each
 unfoldable pub evesOf : List Date → List Step → Bool

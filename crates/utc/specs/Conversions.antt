@@ -25,7 +25,7 @@ use Rattle.utc.specs.declared.ReadingAnswer.the-variants.{AtReading, NoR
 abbrev pub instantAfter : ℕ → ℕ → Instant
 instantAfter n m = instant (dayAtIndex (n + m / dayMicros)) (m % dayMicros)
 
--- TT is ahead of the microseconds of the UTC day n by TT - UTC of that day
+-- the instant u microseconds after the beginning of the UTC day n: TT is ahead by TT - UTC of that day
 abbrev pub ttAt : ℕ → ℕ → Instant
 ttAt n u = instantAfter n (u + ttMinusUtc n)
 

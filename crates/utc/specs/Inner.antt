@@ -15,7 +15,7 @@ use Rattle.utc.specs.declared.UtcAnswer.the-variants.{AtUtc, NoUtc}
 use Rattle.utc.specs.declared.ReadingAnswer.{ReadingAnswer}
 use Rattle.utc.specs.declared.ReadingAnswer.the-variants.{AtReading, NoReading}
 
--- k of the days t have come by the day n: the last of them, and not the next
+-- the k-th of the days t has come by the day n, and the next has not; where they rise, k of them have come
 pub record LastBegun (t : List ℕ) (n k : ℕ) : Type 0 where
   pub most : k ≤ length t
   pub low : (j : ℕ) → suc j ≡ k → getD t j 0 ≤ n

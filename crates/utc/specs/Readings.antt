@@ -23,7 +23,7 @@ readingIndex r = dateIndex (date (r .year) (r .month) (r .day))
 abbrev pub readingMicros : Reading → ℕ
 readingMicros r = microsOfTime (r .hour) (r .minute) (r .second) (r .microsecond)
 
--- the last second of the minute: 60 at 23:59 of the day before a step, else 59
+-- the last second of a minute of the day n: 60 at 23:59 of a day that has a second 60, else 59
 abbrev pub lastSecond : ℕ → ℕ → ℕ → ℕ
 lastSecond n hour minute = cond ((eqb hour 23 && eqb minute 59) && hasSecond60 n) 60 59
 

@@ -73,10 +73,10 @@ abbrev pub ttMinusUtc : ℕ → ℕ
 ttMinusUtc n = taiMinusUtc n * secondMicros + ttMinusTai
 
 -- whether the day of index n is the day before one of these rows
-unfoldable pub before : List Step → ℕ → Bool
-before [] n = false
-before (r ∷ rs) n = eqb (n + 1) (dateIndex (r .from)) || before rs n
+unfoldable pub isEve : List Step → ℕ → Bool
+isEve [] n = false
+isEve (r ∷ rs) n = eqb (n + 1) (dateIndex (r .from)) || isEve rs n
 
 -- whether its last minute has a second 60
 unfoldable pub hasSecond60 : ℕ → Bool
-hasSecond60 n = before laterSteps n
+hasSecond60 n = isEve laterSteps n

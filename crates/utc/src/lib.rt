@@ -75,14 +75,14 @@ pub struct Reading {
     pub microsecond: u64,
 }
 
-// A UTC day by its index from 1600-01-01, and microseconds since its beginning: a day's or, in second 60, up to a second more.
-pub struct UtcTime {
-    pub index: u64,
-    pub micros: u64,
+// A UTC day by its index from 1600-01-01, and microseconds since its beginning: fewer than a day has, or in second 60 up to a second more.
+struct UtcTime {
+    index: u64,
+    micros: u64,
 }
 
 // The time of an accepted reading, or its refusal number.
-pub enum UtcAnswer {
+enum UtcAnswer {
     AtUtc(UtcTime),
     NoUtc(u32),
 }
@@ -93,7 +93,8 @@ pub enum ReadingAnswer {
     NoReading(u32),
 }
 
-// How many steps of a table that is lent have begun by the day of index n. Looks from the last one back: most days that are asked for are late.
+// The place of the last step of a lent table that has begun by the day of index n, counted from 1, or 0: where they rise, how many have. Looks from the last one
+// back, since most days that are asked for are late.
 fn steps_begun(t: &[u64], n: u64) -> usize
     ensures { λ k. ⌜ LastBegun (now (t .entry)) n k ⌝ }
 {
@@ -144,8 +145,8 @@ fn covered(n: u64, u: u64) -> UtcAnswer
     })
 }
 
-// The time of an accepted reading, or refusal 1 to 7, 19 or 20. Every service that is given a reading asks here.
-pub fn accept(
+// The time of an accepted reading, or refusal 1 to 7, 19 or 20.
+fn accept(
     year: u64,
     month: u64,
     day: u64,

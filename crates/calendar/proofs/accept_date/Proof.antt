@@ -1,7 +1,7 @@
 -- `calendar::accept_date` meets its contract. The three tests of the code are the cases of the definition in their order; a date that passes them has
 -- the index that years, months and days add up to. Assumes nothing.
 use Prim.Native.Nat.{_+_, _-_, _<_, _≤_}
-use mathlib.Core.Path.{_≡_, _∙_, ap}
+use mathlib.Core.Path.{_≡_, ap}
 use native.Mathlib.Omega.{arith}
 use borrow.Author.Needs.{needs}
 use Rattle.instants.proofs.Accepted.{between}

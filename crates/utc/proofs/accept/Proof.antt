@@ -2,7 +2,6 @@
 -- Assumes nothing.
 use Prim.Native.Nat.{ℕ}
 use mathlib.Core.Path.{_≡_, refl, _∙_, ap, sym}
-use mathlib.Core.List.{_++_}
 use native.Mathlib.Omega.{arith}
 use borrow.Author.Needs.{needs}
 use Rattle.instants.specs.Refusals.{refusedOr}
@@ -13,7 +12,7 @@ use Rattle.calendar.specs.Dates.{dateCases}
 use Rattle.calendar.specs.Times.{timeCases}
 use Rattle.calendar.specs.Inner.{dateAcceptance, timeAcceptance}
 use Rattle.calendar.proofs.Inverse.{date-at}
-use Rattle.utc.specs.Readings.{readingIndex, lastSecond, coverCases}
+use Rattle.utc.specs.Readings.{readingIndex, lastSecond}
 use Rattle.utc.specs.Inner.{coveredTime, readingAcceptance}
 use Rattle.utc.specs.declared.Reading.{Reading}
 use Rattle.utc.specs.declared.UtcAnswer.{UtcAnswer}

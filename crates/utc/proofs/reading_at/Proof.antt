@@ -1,6 +1,4 @@
 -- `utc::reading_at` meets its contract: it computes the reading of the definition. Assumes nothing.
-use Prim.Native.Nat.{_*_, _≤_, _<_}
-use mathlib.Core.Path.{ap}
 use native.Mathlib.Omega.{arith}
 use borrow.Author.Needs.{needs}
 use Rattle.utc.proofs.Readings.{Minute, minute-of}

@@ -1,10 +1,9 @@
 -- `utc::reading_on` meets its contract: the tests of the code are those of the definition, and the day before the TT day has begun. Assumes nothing.
 use Prim.Native.Nat.{_-_, _≤_}
-use mathlib.Core.Path.{_≡_, _∙_, ap}
+use mathlib.Core.Path.{ap}
 use native.Mathlib.Omega.{arith}
 use borrow.Author.Tests.{lt-ltb, le-ltb, le-leb, lt-leb}
 use borrow.Author.Needs.{needs}
-use Rattle.utc.specs.Conversions.{dayBegins}
 use Rattle.utc.specs.Inner.{readingAnswer}
 use Rattle.utc.specs.declared.ReadingAnswer.the-variants.{AtReading}
 use Rattle.utc.proofs.Days.{first-begins, expiry-begins, begins-to}

@@ -1,6 +1,6 @@
 -- `utc::steps_begun` meets its contract. The loop's invariant: the first k days of the table are left, and the day k, where there is one, has not come. It
 -- ends at the last day that has come, or where none is left. Assumes nothing.
-use Prim.Native.Nat.{ℕ, suc, _-_, _≤_, _<_}
+use Prim.Native.Nat.{ℕ, _-_, _≤_, _<_}
 use mathlib.Core.Path.{_≡_, subst}
 use native.Mathlib.Omega.{arith}
 use lib.ListN.{length, getD}

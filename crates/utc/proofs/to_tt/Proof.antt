@@ -1,14 +1,13 @@
 -- `utc::to_tt` meets its contract: a reading is refused by the same cases as its time, and an accepted one has the instant of that time. Assumes nothing.
 use Prim.Native.Nat.{_*_, _<_}
 use mathlib.Core.Path.{_≡_, refl, _∙_, ap, sym}
-use mathlib.Core.Bool.{Bool, true, false}
 use native.Mathlib.Omega.{arith}
 use borrow.Author.Needs.{needs}
 use Rattle.instants.specs.Limits.{dayMicros, daysCovered}
 use Rattle.instants.proofs.FirstRefusal.{handed-on}
 use Rattle.calendar.specs.declared.InstantAnswer.{InstantAnswer}
 use Rattle.calendar.specs.declared.InstantAnswer.the-variants.{AtInstant, NoInstant}
-use Rattle.utc.specs.Readings.{readingIndex, readingMicros, readingCases}
+use Rattle.utc.specs.Readings.{readingCases}
 use Rattle.utc.specs.Conversions.{ttAt, ttOf}
 use Rattle.utc.specs.Inner.{readingAcceptance}
 use Rattle.utc.specs.declared.Reading.{Reading}

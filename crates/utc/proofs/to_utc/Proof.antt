@@ -5,7 +5,7 @@ use native.Mathlib.Omega.{arith}
 use lib.IntN.{ℤ}
 use mir.Facts.{toZ-ofZ}
 use borrow.Author.Needs.{needs}
-use Rattle.instants.specs.Instants.{dayIndex, instantCases, acceptance}
+use Rattle.instants.specs.Instants.{instantCases, acceptance}
 use Rattle.instants.specs.Moments.{moment}
 use Rattle.instants.specs.declared.Acceptance.{Acceptance}
 use Rattle.instants.specs.declared.Acceptance.the-variants.{Accepted, NotAccepted}

@@ -1,5 +1,4 @@
 -- `utc::tt_minus_utc` meets its contract. Assumes nothing.
-use native.Mathlib.Omega.{arith}
 use borrow.Author.Needs.{needs}
 use Rattle.utc.proofs.tt_minus_utc.Statement.{statement}
 use Rattle.utc.proofs.tt_minus_utc.Tie as tie
