@@ -270,11 +270,11 @@ static struct row {
     {"record read", read_back, read_back_plain, 0.8, 0, 0},
 #ifdef WITH_ERFA
     {"day to date, against ERFA's eraJd2cal", date, date_erfa, 0.6, 0, 0},
-    {"UTC to TT, against ERFA", utc_to_tt, utc_to_tt_erfa, 0, 0, 0},
-    {"TT to UTC, against ERFA", tt_to_utc, tt_to_utc_erfa, 0, 0, 0},
+    {"UTC to TT, against ERFA", utc_to_tt, utc_to_tt_erfa, 0.12, 0, 0},
+    {"TT to UTC, against ERFA", tt_to_utc, tt_to_utc_erfa, 0.06, 0, 0},
 #endif
-    {"UTC to TT", utc_to_tt, utc_to_tt_plain, 0, 0, 0},
-    {"TT to UTC", tt_to_utc, tt_to_utc_plain, 0, 0, 0},
+    {"UTC to TT", utc_to_tt, utc_to_tt_plain, 1.4, 0, 0},
+    {"TT to UTC", tt_to_utc, tt_to_utc_plain, 0.95, 0, 0},
     {"frequency and phase", constituent, constituent_plain, 0, 0, 0},
     {"record written", written, written_plain, 0, 0, 0},
     {"run of 96 records", run_96, run_96_plain, 0, 0, 0},
