@@ -12,6 +12,7 @@ pub record Step : Type 0 where
   pub from : Date
   pub seconds : ℕ
 
+-- the row of a date and its seconds
 abbrev pub step : (year month day seconds : ℕ) → Step
 step year month day seconds = record { from = date year month day; seconds = seconds }
 
