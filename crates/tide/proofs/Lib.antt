@@ -6,3 +6,4 @@ pub mod Bounded
 pub mod Sums
 pub mod Range
 pub mod Promises
+pub mod Published

@@ -16,6 +16,7 @@ use Rattle.algebra.proofs.Bits.{readBack, read-same}
 use Rattle.instants.specs.Instants.{IsAccepted, dayIndex}
 use Rattle.instants.proofs.Accepted.{accepted-at}
 use Rattle.instants.specs.Limits.{indexOffset, daysCovered}
+use Rattle.utc.specs.declared.Reading.{Reading}
 use Rattle.tide.specs.declared.Doodson.{Doodson}
 use Rattle.tide.specs.Tidal.{inRange, allInRange, tideOf, doodson}
 
@@ -98,6 +99,6 @@ each-back k t = record {
 }
 
 -- ---- what an exported call asks for is what it was handed
-pub asked-back : {d k1 k2 k3 k4 k5 k6 : ℤ} (m : ℕ) → SFits w64 d → SFits w64 k1 → SFits w64 k2 → SFits w64 k3 → SFits w64 k4 → SFits w64 k5 → SFits w64 k6
-    → tideOf (readBack d) m (doodson (readBack k1) (readBack k2) (readBack k3) (readBack k4) (readBack k5) (readBack k6)) ≡ tideOf d m (doodson k1 k2 k3 k4 k5 k6)
-asked-back m h h1 h2 h3 h4 h5 h6 = rw (toZ-ofZ h, toZ-ofZ h1, toZ-ofZ h2, toZ-ofZ h3, toZ-ofZ h4, toZ-ofZ h5, toZ-ofZ h6)
+pub asked-back : {k1 k2 k3 k4 k5 k6 : ℤ} (r : Reading) → SFits w64 k1 → SFits w64 k2 → SFits w64 k3 → SFits w64 k4 → SFits w64 k5 → SFits w64 k6
+    → tideOf r (doodson (readBack k1) (readBack k2) (readBack k3) (readBack k4) (readBack k5) (readBack k6)) ≡ tideOf r (doodson k1 k2 k3 k4 k5 k6)
+asked-back r h1 h2 h3 h4 h5 h6 = rw (toZ-ofZ h1, toZ-ofZ h2, toZ-ofZ h3, toZ-ofZ h4, toZ-ofZ h5, toZ-ofZ h6)

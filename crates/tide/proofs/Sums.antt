@@ -1,16 +1,20 @@
--- How large the numbers are at an accepted instant, of any day from 1600 to 2400, so that none is an infinity: the fraction of the day is at most 1
+-- How large the numbers are at an instant for phases, of any day from 1600 to 2400, so that none is an infinity: the fraction of the day is at most 2
 -- and the centuries at most 7, so the Delaunay arguments F1 to F5 are at most 3503193 and their frequencies 8, the twelve Doodson arguments at most
 -- 15 million, and a sum of six products with multipliers up to 12 at most 72 times that. Each bound follows from those before by Bounded's laws.
 -- Assumes nothing.
 use mathlib.Core.Path.{_≡_, refl}
-use Prim.Native.Nat.{ℕ, _≤_, _<_}
+use Prim.Native.Nat.{ℕ, _*_, _≤_, _<_}
 use native.Mathlib.Nat.{le-of-lt}
+use native.Mathlib.Omega.{arith}
 use lib.Dec.{T, lit≤, lit<}
 use lib.IntN.{ℤ, pos, natAbs}
 use lib.Ieee.{Float, ofInt}
 use Rattle.instants.specs.Limits.{dayMicros}
-use Rattle.instants.specs.Instants.{IsAccepted, dayIndex}
+use Rattle.instants.specs.Instants.{dayIndex}
 use Rattle.instants.proofs.Accepted.{accepted-at}
+use Rattle.utc.specs.Readings.{readingMicros}
+use Rattle.utc.specs.PhaseInstants.{PhaseInstant}
+use Rattle.utc.proofs.PhaseInstants.{parts-accepted, utc-less}
 use Rattle.tide.specs.declared.Doodson.{Doodson}
 use Rattle.tide.specs.declared.Arguments.{Arguments}
 use Rattle.tide.specs.Binary64.{_⊕_, _⊖_, _⊗_, whole, decimal64, zero64}
@@ -20,11 +24,11 @@ use Rattle.tide.proofs.Signed.{dayMost, accepted-size, range-size, Each
 use Rattle.tide.proofs.Bounded.{Bound, known, number, wide, negated, added, subtracted, multiplied, divided, zero-product}
 
 -- ---- f and t
-fraction-bound : (m : ℕ) → m < dayMicros → Bound 1 (dayFraction m)
+fraction-bound : (m : ℕ) → m < 2 * dayMicros → Bound 2 (dayFraction m)
 unfolding dayFraction ofInt
-fraction-bound m h = divided 10546875 13 tt refl (lit< tt) (number 86_400_000_000 (pos m) tt (le-of-lt h))
+fraction-bound m h = divided 10546875 13 tt refl (lit< tt) (number 172_800_000_000 (pos m) tt (le-of-lt h))
 
-centuries-bound : (d : ℤ) (f : Float) → natAbs d ≤ dayMost → Bound 1 f → Bound 7 (centuries d f)
+centuries-bound : (d : ℤ) (f : Float) → natAbs d ≤ dayMost → Bound 2 f → Bound 7 (centuries d f)
 unfolding centuries ofInt decimal64
 centuries-bound d f h a = divided 36525 0 tt refl (lit< tt) (wide tt (added tt (subtracted tt (subtracted tt (number dayMost d tt h) (number 51544 (pos 51544) tt (lit≤ tt))) (known {B = 1} tt)) a))
 
@@ -80,7 +84,7 @@ pub record Bounds (a : Arguments) : Type 0 where
   pub dd5 : Limited (a .dd5)
   pub dd6 : Limited (a .dd6)
 
-bounds-of : (f t : Float) → Bound 1 f → Bound 7 t → Bounds (argumentsOf f t)
+bounds-of : (f t : Float) → Bound 2 f → Bound 7 t → Bounds (argumentsOf f t)
 unfolding argumentsOf
 bounds-of f t hf ht =
     let F = delaunay ht in
@@ -104,11 +108,14 @@ bounds-of f t hf ht =
       dd6 = wide tt (subtracted tt dd3 (FD .1));
     }
 
-pub bounds-at : (d : ℤ) (m : ℕ) → IsAccepted d m → Bounds (argumentsAt d m)
+pub bounds-at : (p : PhaseInstant) → Bounds (argumentsAt p)
 unfolding argumentsAt
-bounds-at d m h =
-    let f = fraction-bound m (accepted-at d m (dayIndex d) h .less) in
-    bounds-of (dayFraction m) (centuries d (dayFraction m)) f (centuries-bound d (dayFraction m) (accepted-size d m h) f)
+bounds-at p =
+    let d = p .tt .day in
+    let m = p .tt .micros in
+    let a = parts-accepted p .2 in
+    let f = fraction-bound m (omega (arith, accepted-at d m (dayIndex d) a .less)) in
+    bounds-of (dayFraction (readingMicros (p .utc))) (centuries d (dayFraction m)) (fraction-bound _ (omega (arith, utc-less p))) (centuries-bound d (dayFraction m) (accepted-size d m a) f)
 
 -- ---- the sums
 multiplier : (z : ℤ) → T (inRange z) → Bound 12 (whole z)

@@ -2,13 +2,15 @@
 -- Derived from the IERS routine TDFRPH; not IERS Conventions software (NOTICE, docs/DIFFERENCES.md).
 use Prim.Native.Nat.{ℕ}
 use mathlib.Core.Bool.{Bool, cond, not, _&&_}
-use mathlib.Core.List.{List, [], _∷_, _++_}
+use mathlib.Core.List.{List, [], _∷_}
 use lib.IntN.{ℤ, pos, negℤ}
 use lib.Signed.{leZ}
 use lib.Ieee as Ieee
 use lib.Ieee.{Float, binary64, neg}
 use Rattle.instants.specs.Refusals.{Case, case, refusedOr}
-use Rattle.instants.specs.Instants.{instantCases}
+use Rattle.utc.specs.Readings.{readingMicros}
+use Rattle.utc.specs.PhaseInstants.{PhaseInstant, atPhase}
+use Rattle.utc.specs.declared.Reading.{Reading}
 use Rattle.tide.specs.Binary64.{_⊕_, _⊖_, _⊗_, _⊘_, whole, zero64, plus}
 use Rattle.tide.specs.Delaunay.{F1, F2, F3, F4, F5, FD1, FD2, FD3, FD4, FD5}
 use Rattle.tide.specs.declared.Doodson.{Doodson}
@@ -42,9 +44,9 @@ argumentsOf f t =
     let DD6 = DD3 ⊖ FD2 in
     record { d1 = D1; d2 = D2; d3 = D3; d4 = D4; d5 = D5; d6 = D6; dd1 = DD1; dd2 = DD2; dd3 = DD3; dd4 = DD4; dd5 = DD5; dd6 = DD6 }
 
--- at one instant of Terrestrial Time: its microseconds give the hour angle, and the day with them the centuries
-unfoldable pub argumentsAt : (d : ℤ) (m : ℕ) → Arguments
-argumentsAt d m = argumentsOf (dayFraction m) (centuries d (dayFraction m))
+-- at an instant for phases: the hour angle is of its UTC part, whose fraction of the day is 1 or a little more in second 60, and the centuries of its TT part
+unfoldable pub argumentsAt : PhaseInstant → Arguments
+argumentsAt p = argumentsOf (dayFraction (readingMicros (p .utc))) (centuries (p .tt .day) (dayFraction (p .tt .micros)))
 
 -- the products with the six multipliers, added in order from +0
 unfoldable pub sumOfProducts : Doodson → (x1 x2 x3 x4 x5 x6 : Float) → Float
@@ -89,13 +91,13 @@ allInRange k = ((((inRange (k .k1) && inRange (k .k2)) && inRange (k .k3)) && in
 abbrev pub rangeCases : Doodson → List Case
 rangeCases k = case 11 (not (allInRange k)) ∷ []
 
--- the refusals of an instant and of six multipliers
-abbrev pub tideCases : (d : ℤ) (m : ℕ) → Doodson → List Case
-tideCases d m k = instantCases d m ++ rangeCases k
+-- from arguments at hand: both numbers, or the refusal of the multipliers
+unfoldable pub answerOf : Arguments → Doodson → TideAnswer
+answerOf a k = refusedOr NoTide (rangeCases k) (Tide (constituentOf a k))
 
--- both numbers, or a refusal
-unfoldable pub tideOf : (d : ℤ) (m : ℕ) → Doodson → TideAnswer
-tideOf d m k = refusedOr NoTide (tideCases d m k) (Tide (constituentOf (argumentsAt d m) k))
+-- at a reading: its refusal, or that answer at its instant for phases
+unfoldable pub tideOf : Reading → Doodson → TideAnswer
+tideOf r k = atPhase NoTide (λ p. answerOf (argumentsAt p) k) r
 
 -- the numbers of an answer, or z where it is a refusal: what the call of the whole answer leaves where z was
 abbrev pub frequencyOr : Float → TideAnswer → Float

@@ -1,16 +1,18 @@
-// Service (d): frequency and phase of a tidal constituent, from its six Doodson multipliers and an instant of Terrestrial Time.
+// Service (d): frequency and phase of a tidal constituent, from its six Doodson multipliers and a UTC reading.
 // Derived from the IERS routine TDFRPH; not IERS Conventions software (NOTICE, docs/DIFFERENCES.md).
-use instants::Acceptance;
+use utc::PhaseAnswer;
+use utc::PhaseParts;
 ghost use mathlib.Core.Path.{_≡_};
-ghost use Prim.Native.Nat.{_<_};
+ghost use Prim.Native.Nat.{_*_, _<_};
 ghost use lib.Dec.{T};
 ghost use lib.Ieee.{binary64, inFloat};
 ghost use Rattle.instants.specs.Limits.{dayMicros};
-ghost use Rattle.instants.specs.Instants.{IsAccepted};
+ghost use Rattle.utc.specs.Readings.{reading};
+ghost use Rattle.utc.specs.PhaseInstants.{PhaseInstant};
+ghost use Rattle.utc.specs.Inner.{partsOf, Together};
 ghost use Rattle.tide.specs.Binary64.{_⊗_, whole};
 ghost use Rattle.tide.specs.Delaunay.{horner};
-ghost use Rattle.tide.specs.Tidal.{dayFraction, centuries, argumentsOf, argumentsAt, sumOfProducts, settled, reduced, inRange, allInRange, tideOf};
-ghost use Rattle.tide.specs.Inner.{answerOf};
+ghost use Rattle.tide.specs.Tidal.{dayFraction, centuries, argumentsOf, argumentsAt, sumOfProducts, settled, reduced, inRange, allInRange, answerOf, tideOf};
 
 // The six multipliers of a constituent.
 pub struct Doodson {
@@ -50,9 +52,9 @@ pub enum TideAnswer {
     NoTide(u32),
 }
 
-// The fraction of a day, from its microseconds.
+// The fraction of a day, from its microseconds: 1 or a little more in second 60.
 fn day_fraction(micros: u64) -> f64
-    requires { ⌜ micros < dayMicros ⌝ }
+    requires { ⌜ micros < 2 * dayMicros ⌝ }
     ensures { λ r. ⌜ r ≡ dayFraction micros ⌝ }
 {
     micros as f64 / 86400000000.0
@@ -142,13 +144,15 @@ fn arguments_of(f: f64, t: f64) -> Arguments
     }
 }
 
-// The arguments at an accepted instant.
-fn arguments_at(day: i64, micros: u64) -> Arguments
-    requires { ⌜ IsAccepted day micros ⌝ }
-    ensures { λ r. ⌜ r ≡ argumentsAt day micros ⌝ }
+// The arguments at an instant for phases: the hour angle of its UTC part, the centuries of its TT part.
+fn arguments_at(p: PhaseParts) -> Arguments
+    requires { ⌜ Together p ⌝ }
+    ensures { λ r. ⌜ ((a : PhaseInstant) → p ≡ partsOf a → r ≡ argumentsAt a) ⌝ }
 {
-    let f = day_fraction(micros);
-    arguments_of(f, julian_centuries(day, f))
+    let tt = utc::tt_part(p);
+    let day = tt.day;
+    let t = julian_centuries(day, day_fraction(tt.micros));
+    arguments_of(day_fraction(utc::utc_micros(p)), t)
 }
 
 // A multiplier is from -12 to 12.
@@ -228,12 +232,21 @@ fn answer_from(a: Arguments, k: Doodson) -> TideAnswer
     }
 }
 
-// The frequency and phase of a constituent at an instant, or the first refusal: of the instant, then of the multipliers.
-pub fn tide_of(day: i64, micros: u64, k: Doodson) -> TideAnswer
-    ensures { λ r. ⌜ r ≡ tideOf day micros k ⌝ }
+// The frequency and phase of a constituent at a UTC reading, or the first refusal: of the reading, then of the multipliers.
+pub fn tide_of(
+    year: u64,
+    month: u64,
+    day: u64,
+    hour: u64,
+    minute: u64,
+    second: u64,
+    microsecond: u64,
+    k: Doodson,
+) -> TideAnswer
+    ensures { λ r. ⌜ r ≡ tideOf (reading year month day hour minute second microsecond) k ⌝ }
 {
-    match instants::accept(day, micros) {
-        Acceptance::Accepted(_) => answer_from(arguments_at(day, micros), k),
-        Acceptance::NotAccepted(n) => TideAnswer::NoTide(n),
+    match utc::phase_parts(year, month, day, hour, minute, second, microsecond) {
+        PhaseAnswer::AtPhase(p) => answer_from(arguments_at(p), k),
+        PhaseAnswer::NoPhase(n) => TideAnswer::NoTide(n),
     }
 }

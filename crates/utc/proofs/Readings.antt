@@ -1,14 +1,14 @@
 -- What an accepted reading has, and its time of day: its microseconds are fewer than its day has, and the hour, minute, second and microsecond of these
 -- are its own; by whether the second is 60. Assumes nothing.
 use Prim.Native.Nat.{ℕ, _+_, _-_, _*_, _/_, _%_, _≤_, _<_}
-use mathlib.Core.Path.{_≡_, refl, sym, _∙_}
+use mathlib.Core.Path.{_≡_, refl, sym, _∙_, ap}
 use mathlib.Core.Bool.{Bool, true, false, true≢false, cond, _&&_}
 use mathlib.Core.List.{_++_}
 use native.Mathlib.Omega.{arith}
 use native.Mathlib.Decide.{decLe}
 use lib.Dec.{eqb}
 use borrow.Author.Tests.{ltb-false, leb-false, eqb-true, lt-ltb, le-ltb, lt-leb}
-use Rattle.instants.specs.Limits.{dayMicros}
+use Rattle.instants.specs.Limits.{dayMicros, daysCovered}
 use Rattle.instants.proofs.FirstRefusal.{NoneApplies, none-both, answered-none}
 use Rattle.instants.proofs.Impossible.{impossible}
 use Rattle.calendar.specs.Limits.{secondMicros}
@@ -146,6 +146,20 @@ pub held-less : (r : Reading) → Held r → (readingMicros r < dayLength (readi
 held-less r h =
     let l = micros-less (readingIndex r) (r .hour) (r .minute) (r .second) (r .microsecond) (h .hours) (h .minutes) (h .microseconds) (h .seconds) in
     (l, omega (arith, l, extra-most (hasSecond60 (readingIndex r))))
+
+-- a second past 59 is second 60 of the day's last minute: the microseconds are those of a whole day, and the reading's own
+pub sixty-micros : (r : Reading) → Held r → 59 < r .second → readingMicros r ≡ dayMicros + r .microsecond
+sixty-micros r h past = by (last-second (readingIndex r) (r .hour) (r .minute)) (h .seconds)
+  where
+    by : {l : ℕ} → LastSecond (readingIndex r) (r .hour) (r .minute) l → r .second ≤ l → readingMicros r ≡ dayMicros + r .microsecond
+    by usual k = let v : ⊥ = omega (arith, past, k) in absurd v
+    by (longer p q s) k = omega (arith, p, q, past, k)
+
+-- such a time fits the sums of the code
+pub accepted-small : (r : Reading) (t : UtcTime) → readingAcceptance r ≡ AtUtc t → (t .index < daysCovered) × (t .micros < 2 * dayMicros)
+accepted-small r t e =
+    let a = accepted-held r t e in
+    (omega (arith, a .0 .to, ap (λ (t : UtcTime). t .index) (a .1)), omega (arith, held-less r (a .0) .1, ap (λ (t : UtcTime). t .micros) (a .1)))
 
 -- w is a minute of the day, and has begun u microseconds after 0 h
 pub record Minute (u w : ℕ) : Type 0 where

@@ -12,6 +12,10 @@ use Rattle.utc.specs.declared.Reading.{Reading}
 use Rattle.utc.specs.declared.UtcTime.{UtcTime}
 use Rattle.utc.specs.declared.UtcAnswer.{UtcAnswer}
 use Rattle.utc.specs.declared.UtcAnswer.the-variants.{AtUtc, NoUtc}
+use Rattle.utc.specs.PhaseInstants.{PhaseInstant, atPhase}
+use Rattle.utc.specs.declared.PhaseParts.{PhaseParts}
+use Rattle.utc.specs.declared.PhaseAnswer.{PhaseAnswer}
+use Rattle.utc.specs.declared.PhaseAnswer.the-variants.{AtPhase, NoPhase}
 use Rattle.utc.specs.declared.ReadingAnswer.{ReadingAnswer}
 use Rattle.utc.specs.declared.ReadingAnswer.the-variants.{AtReading, NoReading}
 
@@ -32,6 +36,19 @@ coveredTime n u = refusedOr NoUtc (coverCases n) (AtUtc (utcTime n u))
 -- an accepted reading's time, or its refusal
 unfoldable pub readingAcceptance : Reading → UtcAnswer
 readingAcceptance r = refusedOr NoUtc (readingCases r) (AtUtc (utcTime (readingIndex r) (readingMicros r)))
+
+-- the parts of an instant for phases, as the code has them
+abbrev pub partsOf : PhaseInstant → PhaseParts
+partsOf p = record { tt = p .tt; utc = utcTime (readingIndex (p .utc)) (readingMicros (p .utc)) }
+
+-- parts that belong together: those of an instant for phases
+pub record Together (x : PhaseParts) : Type 0 where
+  pub at : PhaseInstant
+  pub are : x ≡ partsOf at
+
+-- the parts of a reading's instant for phases, or its refusal
+unfoldable pub phaseAnswer : Reading → PhaseAnswer
+phaseAnswer r = atPhase NoPhase (λ p. AtPhase (partsOf p)) r
 
 -- x is a moment of the TT day of index i
 pub record OnDay (i x : ℕ) : Type 0 where

@@ -10,7 +10,7 @@ ghost use Rattle.instants.specs.Limits.{dayMicros, daysCovered};
 ghost use Rattle.utc.specs.Table.{taiMinusUtc, ttMinusUtc};
 ghost use Rattle.utc.specs.Readings.{reading, lastSecond};
 ghost use Rattle.utc.specs.Conversions.{ttAt, ttOf, dayBegins, minuteOfDay, readingAt, utcOf};
-ghost use Rattle.utc.specs.Inner.{LastBegun, coveredTime, readingAcceptance, OnDay, readingAnswer};
+ghost use Rattle.utc.specs.Inner.{LastBegun, coveredTime, readingAcceptance, OnDay, readingAnswer, phaseAnswer};
 
 // The days on which TAI - UTC became a second more, as indices from 1600-01-01 on: 1972-07-01 to 2017-01-01.
 const STEPS: [u64; 27] = [
@@ -76,7 +76,7 @@ pub struct Reading {
 }
 
 // A UTC day by its index from 1600-01-01, and microseconds since its beginning: fewer than a day has, or in second 60 up to a second more.
-struct UtcTime {
+pub struct UtcTime {
     index: u64,
     micros: u64,
 }
@@ -85,6 +85,18 @@ struct UtcTime {
 enum UtcAnswer {
     AtUtc(UtcTime),
     NoUtc(u32),
+}
+
+// The parts of an instant for phases: one moment as Terrestrial Time and as UTC. They are private, and `phase_parts` alone makes them, of an accepted reading.
+pub struct PhaseParts {
+    tt: Instant,
+    utc: UtcTime,
+}
+
+// The parts of a reading's instant for phases, or its refusal number.
+pub enum PhaseAnswer {
+    AtPhase(PhaseParts),
+    NoPhase(u32),
 }
 
 // The reading of an instant, or its refusal number.
@@ -211,6 +223,41 @@ pub fn to_tt(
         UtcAnswer::NoUtc(n) => InstantAnswer::NoInstant(n),
         UtcAnswer::AtUtc(t) => InstantAnswer::AtInstant(tt_at(t.index, t.micros)),
     }
+}
+
+// The parts of a reading's instant for phases, or refusal 1 to 7, 19 or 20.
+pub fn phase_parts(
+    year: u64,
+    month: u64,
+    day: u64,
+    hour: u64,
+    minute: u64,
+    second: u64,
+    microsecond: u64,
+) -> PhaseAnswer
+    ensures { λ r. ⌜ r ≡ phaseAnswer (reading year month day hour minute second microsecond) ⌝ }
+{
+    match accept(year, month, day, hour, minute, second, microsecond) {
+        UtcAnswer::NoUtc(n) => PhaseAnswer::NoPhase(n),
+        UtcAnswer::AtUtc(t) => PhaseAnswer::AtPhase(PhaseParts {
+            tt: tt_at(t.index, t.micros),
+            utc: t,
+        }),
+    }
+}
+
+// Their TT part.
+pub fn tt_part(p: PhaseParts) -> Instant
+    ensures { λ r. ⌜ r ≡ p .tt ⌝ }
+{
+    p.tt
+}
+
+// The microseconds of their UTC part, since the beginning of its day.
+pub fn utc_micros(p: PhaseParts) -> u64
+    ensures { λ r. ⌜ r ≡ p .utc .micros ⌝ }
+{
+    p.utc.micros
 }
 
 // The moment at which the UTC day of index n begins.

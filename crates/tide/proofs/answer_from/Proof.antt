@@ -3,8 +3,7 @@ use mathlib.Core.Path.{_≡_, sym, subst, _∙_}
 use mathlib.Core.Bool.{true}
 use lib.Dec.{T}
 use borrow.Author.Needs.{needs}
-use Rattle.tide.specs.Tidal.{allInRange, constituentOf}
-use Rattle.tide.specs.Inner.{answerOf}
+use Rattle.tide.specs.Tidal.{allInRange, constituentOf, answerOf}
 use Rattle.tide.proofs.answer_from.Statement.{statement}
 use Rattle.tide.proofs.answer_from.Tie as tie
 

@@ -1,4 +1,4 @@
--- `tide::day_fraction` meets its contract: a number of microseconds below a day's is one of binary64. Assumes nothing.
+-- `tide::day_fraction` meets its contract: a number of microseconds below that of two days is one of binary64. Assumes nothing.
 use mathlib.Core.Path.{refl}
 use Prim.Native.Nat.{_^_}
 use native.Mathlib.Omega.{arith}

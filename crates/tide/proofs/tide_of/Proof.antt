@@ -1,41 +1,46 @@
--- `tide::tide_of` meets its contract, by the two cases of acceptance. Assumes nothing.
+-- `tide::tide_of` meets its contract: both answers are made at the reading's instant for phases, or are its refusal. Assumes nothing.
 use mathlib.Core.Path.{_≡_, _∙_, ap, sym}
 use borrow.Author.Needs.{needs}
-use lib.IntN.{ℤ}
-use mir.Facts.{toZ-ofZ}
-use Rattle.instants.specs.declared.Acceptance.the-variants.{Accepted}
-use Rattle.instants.specs.Instants.{acceptance, dayIndex}
-use Rattle.instants.proofs.Accepted.{accepted-at, refused-too, answered-too}
+use Prim.Native.Nat.{ℕ}
+use Rattle.instants.proofs.Impossible.{impossible}
+use Rattle.utc.specs.PhaseInstants.{PhaseInstant}
+use Rattle.utc.specs.Inner.{partsOf, phaseAnswer}
+use Rattle.utc.specs.declared.Reading.{Reading}
+use Rattle.utc.specs.declared.PhaseParts.{PhaseParts}
+use Rattle.utc.specs.declared.PhaseAnswer.{PhaseAnswer}
+use Rattle.utc.specs.declared.PhaseAnswer.the-variants.{AtPhase, NoPhase}
+use Rattle.utc.proofs.PhaseInstants.{at-both, answer-together}
+use Rattle.tide.specs.Tidal.{argumentsAt, answerOf, tideOf}
+use Rattle.tide.specs.declared.Arguments.{Arguments}
+use Rattle.tide.specs.declared.Doodson.{Doodson}
+use Rattle.tide.specs.declared.TideAnswer.{TideAnswer}
 use Rattle.tide.specs.declared.TideAnswer.the-variants.{NoTide}
-use Rattle.tide.specs.Tidal.{tideOf}
-use Rattle.tide.specs.Inner.{answerOf}
 use Rattle.tide.proofs.tide_of.Statement.{statement}
 use Rattle.tide.proofs.tide_of.Tie as tie
 
-says : (c : tie.After-accept) → c .accept .result ≡ acceptance (c .before .args .day) (c .before .args .micros)
-says c = c .accept .ensures ∙ ap (λ (d : ℤ). acceptance d (c .before .args .micros)) (toZ-ofZ (c .before .fits .day))
+module _ (r : Reading) (k : Doodson) where
+  -- where the parts are given, the answer is that of their arguments
+  answered : (x : PhaseParts) (a : Arguments) → ((p : PhaseInstant) → x ≡ partsOf p → a ≡ argumentsAt p) → phaseAnswer r ≡ AtPhase x → answerOf a k ≡ tideOf r k
+  unfolding phaseAnswer tideOf
+  answered x a h =
+      at-both (λ (y : PhaseAnswer) (z : TideAnswer). y ≡ AtPhase x → answerOf a k ≡ z) NoPhase NoTide (λ p. AtPhase (partsOf p)) (λ p. answerOf (argumentsAt p) k) r
+      (λ n e. impossible (cc)) (λ p _ e. ap (λ (a : Arguments). answerOf a k) (h p (cc)))
 
--- where the instant is accepted
-module _ (c : tie.After-enum-told) where
-  abbrev asked : tie.After-accept
-  asked = c .before .before
+  -- where a refusal is, it is handed on
+  refused : (n : ℕ) → phaseAnswer r ≡ NoPhase n → NoTide n ≡ tideOf r k
+  unfolding phaseAnswer tideOf
+  refused n =
+      at-both (λ (y : PhaseAnswer) (z : TideAnswer). y ≡ NoPhase n → NoTide n ≡ z) NoPhase NoTide (λ p. AtPhase (partsOf p)) (λ p. answerOf (argumentsAt p) k) r
+      (λ m e. ap NoTide (cc)) (λ p _ e. impossible (cc))
 
-  abbrev start : tie.Start
-  start = asked .before
+phase-parts-requires : tie.Need-phase-parts-requires
+phase-parts-requires c κs = search needs
 
-  found : acceptance (start .args .day) (start .args .micros) ≡ Accepted (dayIndex (start .args .day))
-  found =
-      let e = sym (says asked) ∙ c .enum-told .given .1 in
-      e ∙ ap Accepted (sym (accepted-at _ _ _ e .index))
-
-accept-requires : tie.Need-accept-requires
-accept-requires c κs = search needs
-
-enum-told : tie.Need-enum-told
-enum-told c = search needs
+enum-known-p : tie.Need-enum-known-p
+enum-known-p c = search needs
 
 arguments-at-requires : tie.Need-arguments-at-requires
-arguments-at-requires c κs = rw (toZ-ofZ (start c .fits .day)) (found c)
+arguments-at-requires c κs = let v = c .before in let s = v .before .before in answer-together _ _ (sym (s .phase-parts .ensures) ∙ v .p .given .1)
 
 answer-from-requires : tie.Need-answer-from-requires
 answer-from-requires c κs = search needs
@@ -44,23 +49,14 @@ enum-known-n : tie.Need-enum-known-n
 enum-known-n c = search needs
 
 returns : tie.Need-returns
-unfolding tideOf answerOf
 returns c =
-    let k = c .before .before in
-    rw (c .answer-from .ensures, c .before .arguments-at .ensures, toZ-ofZ (start k .fits .day)) (answered-too NoTide _ _ _ (found k))
+    let a = c .before in
+    let v = a .before .before in
+    let s = v .before .before in
+    c .answer-from .ensures ∙ answered _ _ _ _ (a .arguments-at .ensures) (sym (s .phase-parts .ensures) ∙ v .p .given .1)
 
 returns-2 : tie.Need-returns-2
-unfolding tideOf
-returns-2 c = let q : tie.After-accept = c .before .before .before in refused-too NoTide _ _ _ (sym (says q) ∙ c .before .n .given .1)
+returns-2 c = let v = c .before in let s = v .before .before in refused _ _ _ (sym (s .phase-parts .ensures) ∙ v .n .given .1)
 
 pub tide-of-spec : {M : Type 1} → statement M
-tide-of-spec =
-    tie.close
-    (tie.spec
-    accept-requires
-    enum-told
-    arguments-at-requires
-    answer-from-requires
-    enum-known-n
-    returns
-    returns-2)
+tide-of-spec = tie.close (tie.spec phase-parts-requires enum-known-p arguments-at-requires answer-from-requires enum-known-n returns returns-2)
