@@ -1,10 +1,11 @@
 -- Demand 1 holds. Each service's definition is the first of its own cases that applies, and its cases compute to those that are written out in
 -- specs/AnyInput.antt, in their order; since no case has the number 0, the refusal number tells an answer from a refusal. Assumes nothing.
-use mathlib.Core.Path.{_≡_, refl, sym, _∙_, ap}
+use mathlib.Core.Path.{_≡_, refl, sym, _∙_, ap, subst}
 use Prim.Native.Nat.{ℕ}
 use mathlib.Core.List.{List, _++_}
 use lib.Dec.{T}
 use lib.IntN.{ℤ, pos}
+use lib.Ieee.{Float}
 use Rattle.instants.specs.Refusals.{Case, refusedOr, firstRefusal}
 use Rattle.instants.specs.Instants.{outside, instantCases}
 use Rattle.instants.proofs.FirstRefusal.{handed-on, none-answered, refused-first, numbered, first-none}
@@ -16,6 +17,7 @@ use Rattle.calendar.specs.declared.InstantAnswer.the-variants.{NoInstant}
 use Rattle.instants.specs.Moments.{momentOf}
 use Rattle.utc.specs.Readings.{readingCases}
 use Rattle.utc.specs.Conversions as utc
+use Rattle.utc.specs.declared.Reading.{Reading}
 use Rattle.utc.specs.declared.ReadingAnswer.the-variants.{NoReading}
 use Rattle.clock.specs.Words.{splitOf, joinCases, joinOf, dayWordOr, timeWordOr, splitRefusalOf, joinedDayOr, joinedMicrosOr, joinRefusalOf}
 use Rattle.clock.specs.declared.SplitAnswer.the-variants.{NoSplit}
@@ -23,7 +25,10 @@ use Rattle.clock.specs.declared.JoinAnswer.the-variants.{NoJoin}
 use Rattle.tide.specs.Binary64.{zero64}
 use Rattle.tide.specs.Tidal as tide
 use Rattle.tide.specs.declared.Doodson.{Doodson}
+use Rattle.tide.specs.declared.Constituent.{Constituent}
+use Rattle.tide.specs.declared.TideAnswer.{TideAnswer}
 use Rattle.tide.specs.declared.TideAnswer.the-variants as tideCase
+use Rattle.tide.proofs.Promises.{in-full}
 use Rattle.zonal.specs.Ours as zonal
 use Rattle.zonal.specs.declared.ZonalAnswer.the-variants as zonalCase
 use Rattle.nutation.specs.Ours as nutation
@@ -33,7 +38,7 @@ use Rattle.record.specs.declared.ReadAnswer.the-variants.{NoRecord}
 use Rattle.record.proofs.Kept as kept
 use Rattle.run.specs.Run.{runCases, runRefusal}
 use Rattle.run.proofs.Records as records
-use Rattle.promises.proofs.Utc.{handed-readings, utc-to-tt, handed-instants, tt-to-utc}
+use Rattle.promises.proofs.Utc.{handed-readings, utc-to-tt, phase, handed-instants, tt-to-utc}
 use Rattle.promises.specs.AnyInput.{Number, AnyInputIsAnswered}
 
 -- ---- the refusals
@@ -57,10 +62,6 @@ split d m = handed-on NoSplit splitRefusalOf (λ n. refl) (instantCases d m) _
 join : (d : ℤ) (t : ℕ) → joinRefusalOf (joinOf d t) ≡ firstRefusal (joinCases d t)
 unfolding joinOf
 join d t = handed-on NoJoin joinRefusalOf (λ n. refl) (joinCases d t) _
-
-phase : (d : ℤ) (m : ℕ) (k : Doodson) → tide.tideRefusalOf (tide.tideOf d m k) ≡ firstRefusal (tide.tideCases d m k)
-unfolding tide.tideOf
-phase d m k = handed-on tideCase.NoTide tide.tideRefusalOf (λ n. refl) (tide.tideCases d m k) _
 
 corrections : (d : ℤ) (m : ℕ) → zonal.zonalRefusalOf (zonal.zonalOf d m) ≡ firstRefusal (instantCases d m)
 unfolding zonal.zonalOf
@@ -100,9 +101,18 @@ module _ {A : Type 0} (refuse : ℕ → A) (refusal : A → ℕ) (cs : List Case
       refused : (refusal (refusedOr refuse cs a) ≡ 0 → ⊥) → (old : B) → left old (refusedOr refuse cs a) ≡ old
       refused h old = ap (left old) (refused-first refuse cs a (λ z. h (first ∙ z))) ∙ stays (firstRefusal cs) old
 
+-- those of a phase, by the equation of its answer
+module _ (r : Reading) (k : Doodson) where
+  phase-number : (left : Float → TideAnswer → Float) → ((n : ℕ) (old : Float) → left old (tideCase.NoTide n) ≡ old) → ((x : Constituent) (old : Float) → left old (tideCase.Tide x) ≡ left zero64 (tideCase.Tide x))
+      → Number tide.tideRefusalOf (left zero64) left zero64 (tide.tideOf r k)
+  phase-number left stays gives =
+      subst (λ (a : TideAnswer). Number tide.tideRefusalOf (left zero64) left zero64 a) (sym (in-full r k))
+      (number tideCase.NoTide tide.tideRefusalOf (readingCases r ++ tide.rangeCases k) _ (handed-on tideCase.NoTide tide.tideRefusalOf (λ n. refl) (readingCases r ++ tide.rangeCases k) _) tt
+      left zero64 stays (gives _))
+
 -- PROMISE. Demand 1: any input is answered.
 pub any-input-is-answered : AnyInputIsAnswered
-unfolding outside tide.allInRange dayOf dateOf instantOf utc.ttOf utc.utcOf splitOf joinOf tide.tideOf zonal.zonalOf nutation.nutationOf readOf
+unfolding outside dayOf dateOf instantOf utc.ttOf utc.utcOf splitOf joinOf zonal.zonalOf nutation.nutationOf readOf
 any-input-is-answered = record {
   date-to-day = date-to-day;
   date-to-day-numbers = λ y m d. number NoDay dateRefusalOf (dateCases y m d) _ (date-to-day y m d) tt dayNumberOr (pos 0) (λ _ _. refl) (λ _. refl);
@@ -128,10 +138,7 @@ any-input-is-answered = record {
     number NoJoin joinRefusalOf (joinCases d t) _ (join d t) tt joinedMicrosOr 0 (λ _ _. refl) (λ _. refl),
   );
   phase = phase;
-  phase-numbers = λ d m k. (
-    number tideCase.NoTide tide.tideRefusalOf (tide.tideCases d m k) _ (phase d m k) tt tide.frequencyOr zero64 (λ _ _. refl) (λ _. refl),
-    number tideCase.NoTide tide.tideRefusalOf (tide.tideCases d m k) _ (phase d m k) tt tide.phaseOr zero64 (λ _ _. refl) (λ _. refl),
-  );
+  phase-numbers = λ r k. (phase-number r k tide.frequencyOr (λ _ _. refl) (λ _ _. refl), phase-number r k tide.phaseOr (λ _ _. refl) (λ _ _. refl));
   corrections = corrections;
   corrections-numbers = λ d m. (
     number zonalCase.NoZonal zonal.zonalRefusalOf (instantCases d m) _ (corrections d m) tt zonal.ut1Or (pos 0) (λ _ _. refl) (λ _. refl),

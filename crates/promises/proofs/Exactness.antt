@@ -1,22 +1,34 @@
 -- Demand 2 holds. Each field is proved from the theorem of its service that docs/PROMISES.md names. Assumes nothing.
 use mathlib.Core.Path.{_≡_, refl}
+use Prim.Native.Nat.{_+_, _<_}
+use lib.Dec.{T}
 use lib.IntN.{pos}
+use lib.Ieee.{le}
 use Rattle.calendar.proofs.Inverse.{there-and-back, back-and-there, has-date, next-date}
 use Rattle.calendar.proofs.Times.{instant-accepted}
 use Rattle.instants.specs.Instants.{instant, outside, dayIndex, dayAtIndex}
+use Rattle.instants.specs.declared.Instant.{Instant}
 use Rattle.calendar.specs.Dates.{leapYear, monthLengths, monthLength, sum, yearLength, daysOfYears, daysBefore, dateIndex}
 use Rattle.calendar.specs.declared.InstantAnswer.the-variants.{AtInstant}
 use Rattle.utc.specs.Table.{firstStep, laterSteps, begun, taiMinusUtc, isEve, hasSecond60}
-use Rattle.utc.specs.Conversions.{ttOf, dayBegins, utcOf}
-use Rattle.utc.specs.Readings.{reading}
+use Rattle.utc.specs.Readings.{reading, readingIndex, readingMicros, AcceptedReading}
+use Rattle.utc.specs.Conversions.{ttAt, ttOf, dayBegins, utcOf}
+use Rattle.utc.specs.PhaseInstants.{PhaseInstant}
+use Rattle.utc.specs.declared.Reading.{Reading}
 use Rattle.utc.specs.declared.ReadingAnswer.the-variants.{NoReading}
 use Rattle.utc.proofs.Steps.{table-rule}
 use Rattle.utc.proofs.Inverse.{reading-there-and-back, instant-there-and-back}
 use Rattle.utc.proofs.Unique.{accepted-answered, answered-accepted, tt-accepted, one-reading, refused-unread, unread-refused}
+use Rattle.utc.proofs.PhaseInstants.{parts-accepted, accepted-phase, sixty-past-the-day}
 use Rattle.utc.proofs.Following.{next-second}
 use Rattle.utc.proofs.Eves.{sixty-only, sixty-there}
 use Rattle.clock.proofs.Words.{split-accepted, split-then-join, JoinedExactly, joined-exactly}
-use Rattle.tide.proofs.Promises.{frequency-finite, phase-in-turn, zeros-give-zero}
+use Rattle.tide.specs.Binary64.{whole}
+use Rattle.tide.specs.Tidal.{dayFraction, centuries, argumentsOf, argumentsAt, constituentOf, allInRange, tideOf}
+use Rattle.tide.specs.declared.Doodson.{Doodson}
+use Rattle.tide.specs.declared.TideAnswer.the-variants.{Tide}
+use Rattle.tide.proofs.Promises.{frequency-finite, phase-in-turn, at-instant, zeros-give-zero, fraction-from-one}
+use Rattle.tide.proofs.Published.{published}
 use Rattle.record.proofs.Round.{read-written}
 use Rattle.record.proofs.Again.{written-again}
 use Rattle.record.proofs.Kept.{write-keeps, read-front}
@@ -42,6 +54,18 @@ before-and-after : (utcOf (pos 41317) 42_183_999 ≡ NoReading 19) × (utcOf (po
 unfolding utcOf dayBegins outside dayIndex taiMinusUtc begun firstStep laterSteps dateIndex daysOfYears daysBefore yearLength sum monthLengths leapYear
 before-and-after = (refl, refl)
 
+-- ---- the instant for phases of a reading
+
+corrected : (r : Reading) (t : Instant) (k : Doodson) → ttOf r ≡ AtInstant t → T (allInRange k)
+    → tideOf r k ≡ Tide (constituentOf (argumentsOf (dayFraction (readingMicros r)) (centuries (t .day) (dayFraction (t .micros)))) k)
+unfolding argumentsAt
+corrected r t k e = at-instant (record { tt = t; utc = r; together = e }) k
+
+past-the-day : (r : Reading) → AcceptedReading r → 59 < r .second → (readingMicros r ≡ 86_400_000_000 + r .microsecond) × T (le (whole (pos 1)) (dayFraction (readingMicros r)))
+past-the-day r a h =
+    let p : PhaseInstant = record { tt = ttAt (readingIndex r) (readingMicros r); utc = r; together = accepted-answered r a } in
+    (sixty-past-the-day p h, fraction-from-one p h)
+
 -- PROMISE. Demand 2: exactness.
 pub exactness : Exactness
 exactness = record {
@@ -52,6 +76,11 @@ exactness = record {
   instant-of-date = instant-accepted;
   split-and-joined = λ d m a. (split-accepted d m a, split-then-join d m a);
   joined-exactly = λ d e k m a b n. let j : JoinedExactly d e m = joined-exactly d e k m a b n in (j .same, j .other);
+  parts-belong-together = parts-accepted;
+  every-reading-has-phases = accepted-phase;
+  corrected-expression = corrected;
+  second-60-past-the-day = past-the-day;
+  published-phases = published;
   frequency-finite = frequency-finite;
   phase-in-turn = phase-in-turn;
   zeros-give-zero = zeros-give-zero;

@@ -1,4 +1,4 @@
--- The refusals of UTC readings and of instants out of the list's reach, in the figures of specs/AnyInput.antt: where the cases before them do not apply,
+-- The refusals of UTC readings, of phases, and of instants out of the list's reach, in the figures of specs/AnyInput.antt: where the cases before them do not apply,
 -- dates in their order have rising indices, and days with their microseconds rising moments. Assumes nothing.
 use Prim.Native.Nat.{ℕ, _+_, _-_, _≤_, _<_}
 use mathlib.Core.Path.{_≡_, refl, sym, _∙_, ap}
@@ -30,7 +30,11 @@ use Rattle.utc.specs.declared.ReadingAnswer.the-variants.{NoReading}
 use Rattle.utc.proofs.Days.{first-begins, expiry-begins}
 use Rattle.utc.specs.Claims.{eveOf, evesOf}
 use Rattle.utc.proofs.Eves.{has-second-60}
-use Rattle.promises.specs.AnyInput.{refusal4, refusal5, refusal6-utc, refusal7, refusal19-utc, refusal20-utc, refusal19-tt, refusal20-tt, daysWithSecond60}
+use Rattle.tide.specs.Tidal.{allInRange, rangeCases, tideOf, tideRefusalOf}
+use Rattle.tide.specs.declared.Doodson.{Doodson}
+use Rattle.tide.specs.declared.TideAnswer.the-variants.{NoTide}
+use Rattle.tide.proofs.Promises.{in-full}
+use Rattle.promises.specs.AnyInput.{refusal4, refusal5, refusal6-utc, refusal7, refusal11, refusal19-utc, refusal20-utc, readingRefusals, refusal19-tt, refusal20-tt, daysWithSecond60}
 
 -- PROMISE. The 27 days of the figures are the days before the steps after the first.
 pub eves : T (evesOf daysWithSecond60 laterSteps)
@@ -65,16 +69,25 @@ module _ (r : Reading) where
       refusal4 (r .hour) ∷ refusal5 (r .minute) ∷ refusal6-utc (r .year) (r .month) (r .day) (r .hour) (r .minute) (r .second) ∷ refusal7 (r .microsecond)
       ∷ refusal19-utc (r .year) (r .month) (r .day) ∷ refusal20-utc (r .year) (r .month) (r .day) ∷ []
 
-  behind : Valid (date (r .year) (r .month) (r .day)) → firstRefusal ours ≡ firstRefusal figures
+  -- whatever stands behind both
+  behind : Valid (date (r .year) (r .month) (r .day)) → (es : List Case) → firstRefusal (ours ++ es) ≡ firstRefusal (figures ++ es)
   unfolding firstStep
-  behind v = rw (has-second-60 daysWithSecond60 eves _ v, earlier-index _ (firstStep .from) v first-valid, turned (dateIndex expiry) (readingIndex r), earlier-index _ expiry v expiry-valid) refl
+  behind v es = rw (has-second-60 daysWithSecond60 eves _ v, earlier-index _ (firstStep .from) v first-valid, turned (dateIndex expiry) (readingIndex r), earlier-index _ expiry v expiry-valid) refl
+
+  in-figures : (es : List Case) → firstRefusal (readingCases r ++ es) ≡ firstRefusal (readingRefusals r ++ es)
+  in-figures es = first-behind (dateCases (r .year) (r .month) (r .day)) (ours ++ es) (figures ++ es) (λ n. behind (valid _ _ _ (none-date _ _ _ n)) es)
 
   pub handed-readings : instantRefusalOf (ttOf r) ≡ firstRefusal (readingCases r)
   unfolding ttOf
   handed-readings = handed-on NoInstant instantRefusalOf (λ n. refl) (readingCases r) _
 
-  pub utc-to-tt : instantRefusalOf (ttOf r) ≡ firstRefusal (dateCases (r .year) (r .month) (r .day) ++ figures)
-  utc-to-tt = handed-readings ∙ first-behind (dateCases (r .year) (r .month) (r .day)) ours figures (λ n. behind (valid _ _ _ (none-date _ _ _ n)))
+  pub utc-to-tt : instantRefusalOf (ttOf r) ≡ firstRefusal (readingRefusals r)
+  utc-to-tt = handed-readings ∙ in-figures []
+
+  -- a phase
+  pub phase : (k : Doodson) → tideRefusalOf (tideOf r k) ≡ firstRefusal (readingRefusals r ++ (refusal11 k ∷ []))
+  unfolding allInRange
+  phase k = ap tideRefusalOf (in-full r k) ∙ handed-on NoTide tideRefusalOf (λ n. refl) (readingCases r ++ rangeCases k) _ ∙ in-figures (rangeCases k)
 
 -- ---- an instant
 

@@ -6,7 +6,7 @@
 use Prim.Native.Nat.{ℕ, _-_, _*_, _/_, _%_}
 use mathlib.Core.Path.{_≡_}
 use mathlib.Core.Bool.{Bool, cond, not, _&&_, _||_}
-use mathlib.Core.List.{List, [], _∷_}
+use mathlib.Core.List.{List, [], _∷_, _++_}
 use lib.Dec.{ltb, leb, eqb}
 use lib.IntN.{ℤ, pos, negℤ}
 use lib.ListN.{length}
@@ -125,6 +125,13 @@ refusal19-utc y m d = case 19 (earlier y m d (date 1972 1 1))
 abbrev pub refusal20-utc : (y m d : ℕ) → Case
 refusal20-utc y m d = case 20 (not (earlier y m d (date 2025 6 28)))
 
+-- the refusals of a UTC reading
+abbrev pub readingRefusals : Reading → List Case
+readingRefusals r =
+    refusal1 (r .year) ∷ refusal2 (r .month) ∷ refusal3 (r .year) (r .month) (r .day) ∷ refusal4 (r .hour) ∷ refusal5 (r .minute)
+    ∷ refusal6-utc (r .year) (r .month) (r .day) (r .hour) (r .minute) (r .second) ∷ refusal7 (r .microsecond)
+    ∷ refusal19-utc (r .year) (r .month) (r .day) ∷ refusal20-utc (r .year) (r .month) (r .day) ∷ []
+
 -- the instant d, m is before e, n
 abbrev pub instantBefore : ℤ → ℕ → ℤ → ℕ → Bool
 instantBefore d m e n = ltZ d e || (leZ d e && ltb m n)
@@ -164,10 +171,10 @@ pub record AnyInputIsAnswered : Type 0 where
   pub join : (d : ℤ) (t : ℕ) → joinRefusalOf (joinOf d t) ≡ firstRefusal (refusal8 d ∷ refusal9 (t % 137_438_953_472) ∷ refusal10 d t ∷ [])
   pub join-numbers : (d : ℤ) (t : ℕ) → Number joinRefusalOf joinedDayOf joinedDayOr (pos 0) (joinOf d t) × Number joinRefusalOf joinedMicrosOf joinedMicrosOr 0 (joinOf d t)
   -- (d) frequency and phase
-  pub phase : (d : ℤ) (m : ℕ) (k : Doodson) → tide.tideRefusalOf (tide.tideOf d m k) ≡ firstRefusal (refusal8 d ∷ refusal9 m ∷ refusal11 k ∷ [])
-  pub phase-numbers : (d : ℤ) (m : ℕ) (k : Doodson)
-      → Number tide.tideRefusalOf tide.frequencyOf tide.frequencyOr zero64 (tide.tideOf d m k)
-      × Number tide.tideRefusalOf tide.phaseOf tide.phaseOr zero64 (tide.tideOf d m k)
+  pub phase : (r : Reading) (k : Doodson) → tide.tideRefusalOf (tide.tideOf r k) ≡ firstRefusal (readingRefusals r ++ (refusal11 k ∷ []))
+  pub phase-numbers : (r : Reading) (k : Doodson)
+      → Number tide.tideRefusalOf tide.frequencyOf tide.frequencyOr zero64 (tide.tideOf r k)
+      × Number tide.tideRefusalOf tide.phaseOf tide.phaseOr zero64 (tide.tideOf r k)
   -- (e) corrections
   pub corrections : (d : ℤ) (m : ℕ) → zonal.zonalRefusalOf (zonal.zonalOf d m) ≡ firstRefusal (refusal8 d ∷ refusal9 m ∷ [])
   pub corrections-numbers : (d : ℤ) (m : ℕ)
@@ -197,10 +204,7 @@ pub record AnyInputIsAnswered : Type 0 where
       ≡ firstRefusal (refusal17 count ∷ refusal18 step ∷ refusal8 d ∷ refusal9 m ∷ refusal8-last (laterDay d m ((count - 1) * step)) ∷ refusal12 n (30 * count) ∷ [])
   pub run-write-keeps : (d : ℤ) (m count step : ℕ) (old : List ℕ) → (runRefusal d m count step (length old) ≡ 0 → ⊥) → runWritten d m count step old ≡ old
   -- (h) UTC
-  pub utc-to-tt : (r : Reading) → instantRefusalOf (ttOf r)
-      ≡ firstRefusal (refusal1 (r .year) ∷ refusal2 (r .month) ∷ refusal3 (r .year) (r .month) (r .day) ∷ refusal4 (r .hour) ∷ refusal5 (r .minute)
-      ∷ refusal6-utc (r .year) (r .month) (r .day) (r .hour) (r .minute) (r .second) ∷ refusal7 (r .microsecond)
-      ∷ refusal19-utc (r .year) (r .month) (r .day) ∷ refusal20-utc (r .year) (r .month) (r .day) ∷ [])
+  pub utc-to-tt : (r : Reading) → instantRefusalOf (ttOf r) ≡ firstRefusal (readingRefusals r)
   pub utc-to-tt-numbers : (r : Reading) → Number instantRefusalOf instantDayOf instantDayOr (pos 0) (ttOf r) × Number instantRefusalOf instantMicrosOf instantMicrosOr 0 (ttOf r)
   pub tt-to-utc : (d : ℤ) (m : ℕ) → utc.readingRefusalOf (utc.utcOf d m) ≡ firstRefusal (refusal8 d ∷ refusal9 m ∷ refusal19-tt d m ∷ refusal20-tt d m ∷ [])
   pub tt-to-utc-numbers : (d : ℤ) (m : ℕ)

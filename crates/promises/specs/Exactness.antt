@@ -1,12 +1,13 @@
 -- Demand 2: exactness. Dates each way; frequency and phase; records read back; clock words joined exactly when they are of one day; UTC readings and
 -- instants each way.
-use Prim.Native.Nat.{ℕ, _*_, _≤_, _<_}
+use Prim.Native.Nat.{ℕ, _+_, _*_, _≤_, _<_}
 use mathlib.Core.Path.{_≡_}
 use mathlib.Core.Bool.{false}
 use mathlib.Core.List.{List, _++_}
 use mathlib.Core.Logic.{_⊎_}
 use lib.Dec.{T}
 use lib.IntN.{ℤ, pos, _+ℤ_, _-ℤ_, natAbs}
+use lib.Ieee.{le}
 use lib.ListN.{length, take, drop, getD, set}
 use mir.Syntax.{w32}
 use mir.Val.{SFits}
@@ -23,6 +24,7 @@ use Rattle.calendar.specs.Claims.{oneOf}
 use Rattle.utc.specs.Table.{laterSteps}
 use Rattle.utc.specs.Readings.{reading, readingIndex, readingMicros, AcceptedReading}
 use Rattle.utc.specs.Conversions.{ttAt, ttOf, utcOf, readingRefusalOf}
+use Rattle.utc.specs.PhaseInstants.{PhaseInstant}
 use Rattle.utc.specs.Claims.{tableRule, evesOf, instantSecondLater, nextSecond}
 use Rattle.utc.specs.declared.Reading.{Reading}
 use Rattle.utc.specs.declared.ReadingAnswer.the-variants.{AtReading, NoReading}
@@ -30,9 +32,9 @@ use Rattle.promises.specs.AnyInput.{daysWithSecond60}
 use Rattle.clock.specs.Words.{words, timeWord, splitOf, joinOf}
 use Rattle.clock.specs.declared.SplitAnswer.the-variants.{Split}
 use Rattle.clock.specs.declared.JoinAnswer.the-variants.{Joined, NoJoin}
-use Rattle.tide.specs.Binary64.{zero64}
-use Rattle.tide.specs.Tidal.{tideOf, frequencyOf, phaseOf, doodson}
-use Rattle.tide.specs.Claims.{Finite, InTurn}
+use Rattle.tide.specs.Binary64.{whole, zero64}
+use Rattle.tide.specs.Tidal.{dayFraction, centuries, argumentsOf, constituentOf, allInRange, tideOf, frequencyOf, phaseOf, doodson}
+use Rattle.tide.specs.Claims.{Finite, InTurn, withinMillionth, m2}
 use Rattle.tide.specs.declared.Doodson.{Doodson}
 use Rattle.tide.specs.declared.TideAnswer.the-variants as tideCase
 use Rattle.bigendian.specs.Numbers.{Bytes}
@@ -58,12 +60,25 @@ pub record Exactness : Type 0 where
   -- one day, and then give the moment of the time word
   pub joined-exactly : (d e : ℤ) (k m : ℕ) → IsAccepted d k → IsAccepted e m → natAbs (d -ℤ e) < 8
       → (d ≡ e → joinOf d (timeWord e m) ≡ Joined (instant e m)) × ((d ≡ e → ⊥) → joinOf d (timeWord e m) ≡ NoJoin 10)
-  -- (d) as the calls of one number give them: the frequency is a finite number, the phase is at least 0 and below 360, and six zero multipliers give
+  -- (d) an instant for phases has an accepted reading, whose instant is its TT part and accepted, and every accepted reading has one
+  pub parts-belong-together : (p : PhaseInstant) → AcceptedReading (p .utc) × (ttOf (p .utc) ≡ AtInstant (p .tt)) × IsAccepted (p .tt .day) (p .tt .micros)
+  pub every-reading-has-phases : (r : Reading) → AcceptedReading r → (p : PhaseInstant) × (p .utc ≡ r)
+  -- frequency and phase are the expression in its order: the fraction of 360 f is the reading's, and the centuries are those of its instant
+  pub corrected-expression : (r : Reading) (t : Instant) (k : Doodson) → ttOf r ≡ AtInstant t → T (allInRange k)
+      → tideOf r k ≡ tideCase.Tide (constituentOf (argumentsOf (dayFraction (readingMicros r)) (centuries (t .day) (dayFraction (t .micros)))) k)
+  -- in second 60 that fraction is of a whole day and the reading's microseconds, and as a number of binary64 1 or more
+  pub second-60-past-the-day : (r : Reading) → AcceptedReading r → 59 < r .second
+      → (readingMicros r ≡ 86_400_000_000 + r .microsecond) × T (le (whole (pos 1)) (dayFraction (readingMicros r)))
+  -- the published cases, M2 at UTC 2009-06-25, 0 h and 12:01:45, within a millionth of a degree
+  pub published-phases :
+      T (withinMillionth 303_343338720297 (phaseOf (tideOf (reading 2009 6 25 0 0 0 0) m2)))
+      × T (withinMillionth 291_997959322689 (phaseOf (tideOf (reading 2009 6 25 12 1 45 0) m2)))
+  -- as the calls of one number give them: the frequency is a finite number, the phase is at least 0 and below 360, and six zero multipliers give
   -- +0 and +0
-  pub frequency-finite : (d : ℤ) (m : ℕ) (k : Doodson) → Finite (frequencyOf (tideOf d m k))
-  pub phase-in-turn : (d : ℤ) (m : ℕ) (k : Doodson) → InTurn (phaseOf (tideOf d m k))
-  pub zeros-give-zero : (d : ℤ) (m : ℕ) → IsAccepted d m
-      → tideOf d m (doodson (pos 0) (pos 0) (pos 0) (pos 0) (pos 0) (pos 0)) ≡ tideCase.Tide (record { frequency = zero64; phase = zero64 })
+  pub frequency-finite : (r : Reading) (k : Doodson) → Finite (frequencyOf (tideOf r k))
+  pub phase-in-turn : (r : Reading) (k : Doodson) → InTurn (phaseOf (tideOf r k))
+  pub zeros-give-zero : (r : Reading) → AcceptedReading r
+      → tideOf r (doodson (pos 0) (pos 0) (pos 0) (pos 0) (pos 0) (pos 0)) ≡ tideCase.Tide (record { frequency = zero64; phase = zero64 })
   -- (g) a record written at an accepted instant, with any three numbers of 32 bits, into thirty bytes or more reads back as it was
   pub record-reads-back : (d : ℤ) (m : ℕ) (ut1 lod rate : ℤ) (old : List ℕ) → IsAccepted d m → recordLength ≤ length old → SFits w32 ut1 → SFits w32 lod → SFits w32 rate
       → readOf (written d m ut1 lod rate old) ≡ IsRecord (recordWith d m ut1 lod rate)

@@ -10,5 +10,5 @@ unfolding ofBits
 enfys-tide-frequency-spec =
     tie.close
     (tie.spec (λ c κs. tt) (λ c. search needs) (λ c. search needs)
-    (λ c. let v = c .before in let s = v .before .before in let h = s .before .fits in rw (← asked-back (s .before .args .micros) (h .day) (h .k1) (h .k2) (h .k3) (h .k4) (h .k5) (h .k6), ← s .tide-of .ensures, v .x .given .1) (search needs))
-    (λ c. let s = c .before .before in let h = s .before .fits in rw (← asked-back (s .before .args .micros) (h .day) (h .k1) (h .k2) (h .k3) (h .k4) (h .k5) (h .k6), ← s .tide-of .ensures, c .enum-told .given .1) (search needs)))
+    (λ c. let v = c .before in let s = v .before .before in let h = s .before .fits in rw (← asked-back _ (h .k1) (h .k2) (h .k3) (h .k4) (h .k5) (h .k6), ← s .tide-of .ensures, v .x .given .1) (search needs))
+    (λ c. let s = c .before .before in let h = s .before .fits in rw (← asked-back _ (h .k1) (h .k2) (h .k3) (h .k4) (h .k5) (h .k6), ← s .tide-of .ensures, c .enum-told .given .1) (search needs)))
