@@ -24,7 +24,7 @@ use Rattle.utc.proofs.Following.{next-second}
 use Rattle.utc.proofs.Eves.{sixty-only, sixty-there}
 use Rattle.clock.proofs.Words.{split-accepted, split-then-join, JoinedExactly, joined-exactly}
 use Rattle.tide.specs.Binary64.{whole}
-use Rattle.tide.specs.Tidal.{dayFraction, centuries, argumentsOf, argumentsAt, constituentOf, allInRange, tideOf}
+use Rattle.tide.specs.Tidal.{dayFraction, centuries, argumentsOf, constituentOf, allInRange, tideOf}
 use Rattle.tide.specs.declared.Doodson.{Doodson}
 use Rattle.tide.specs.declared.TideAnswer.the-variants.{Tide}
 use Rattle.tide.proofs.Promises.{frequency-finite, phase-in-turn, at-instant, zeros-give-zero, fraction-from-one}
@@ -58,7 +58,6 @@ before-and-after = (refl, refl)
 
 corrected : (r : Reading) (t : Instant) (k : Doodson) → ttOf r ≡ AtInstant t → T (allInRange k)
     → tideOf r k ≡ Tide (constituentOf (argumentsOf (dayFraction (readingMicros r)) (centuries (t .day) (dayFraction (t .micros)))) k)
-unfolding argumentsAt
 corrected r t k e = at-instant (record { tt = t; utc = r; together = e }) k
 
 past-the-day : (r : Reading) → AcceptedReading r → 59 < r .second → (readingMicros r ≡ 86_400_000_000 + r .microsecond) × T (le (whole (pos 1)) (dayFraction (readingMicros r)))

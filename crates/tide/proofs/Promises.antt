@@ -70,7 +70,8 @@ frequency-finite r k =
 
 -- PROMISE. At an instant for phases, with multipliers in range, the answer is the expression: 360 f with the fraction of the UTC part, and all else with the
 -- centuries of the TT part.
-pub at-instant : (p : PhaseInstant) (k : Doodson) → T (allInRange k) → tideOf (p .utc) k ≡ Tide (constituentOf (argumentsAt p) k)
+pub at-instant : (p : PhaseInstant) (k : Doodson) → T (allInRange k)
+    → tideOf (p .utc) k ≡ Tide (constituentOf (argumentsOf (dayFraction (readingMicros (p .utc))) (centuries (p .tt .day) (dayFraction (p .tt .micros)))) k)
 unfolding tideOf answerOf argumentsAt
 at-instant p k h =
     at-both (λ (x : TideAnswer) (y : InstantAnswer). y ≡ AtInstant (p .tt) → x ≡ Tide (constituentOf (argumentsAt p) k)) NoTide NoInstant (λ q. answerOf (argumentsAt q) k)
@@ -91,7 +92,7 @@ zero-reduced = refl
 -- PROMISE. At every accepted reading six zero multipliers give +0 and +0.
 pub zeros-give-zero : (r : Reading) → AcceptedReading r
     → tideOf r (doodson (pos 0) (pos 0) (pos 0) (pos 0) (pos 0) (pos 0)) ≡ Tide (record { frequency = zero64; phase = zero64 })
-unfolding allInRange constituentOf
+unfolding allInRange constituentOf argumentsAt
 zeros-give-zero r h =
     let p : PhaseInstant = record { tt = ttAt (readingIndex r) (readingMicros r); utc = r; together = accepted-answered r h } in
     let b = bounds-at p in

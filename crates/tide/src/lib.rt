@@ -150,9 +150,10 @@ fn arguments_at(p: PhaseParts) -> Arguments
     ensures { λ r. ⌜ ((a : PhaseInstant) → p ≡ partsOf a → r ≡ argumentsAt a) ⌝ }
 {
     let tt = utc::tt_part(p);
+    let utc_micros = utc::utc_micros(p);
     let day = tt.day;
     let t = julian_centuries(day, day_fraction(tt.micros));
-    arguments_of(day_fraction(utc::utc_micros(p)), t)
+    arguments_of(day_fraction(utc_micros), t)
 }
 
 // A multiplier is from -12 to 12.

@@ -1,11 +1,10 @@
 -- Instants for phases. What is made of a reading is made of its one instant for phases, or is the reading's refusal: by the instant that the reading has,
 -- or has not. Assumes nothing.
 use Prim.Native.Nat.{ℕ, _<_, _+_}
-use mathlib.Core.Path.{_≡_, refl, sym, _∙_, ap}
+use mathlib.Core.Path.{_≡_, refl, sym, _∙_}
 use Rattle.instants.specs.Limits.{dayMicros}
 use Rattle.instants.specs.Refusals.{refusedOr}
 use Rattle.instants.specs.Instants.{IsAccepted}
-use Rattle.instants.specs.declared.Instant.{Instant}
 use Rattle.instants.proofs.FirstRefusal.{none-answered, refused-alike}
 use Rattle.instants.proofs.Impossible.{impossible}
 use Rattle.calendar.specs.Limits.{secondMicros}

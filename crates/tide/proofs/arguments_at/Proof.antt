@@ -1,21 +1,23 @@
 -- `tide::arguments_at` meets its contract: the parts are those of an instant for phases, so binary64 has the day number and both numbers of microseconds.
 -- Assumes nothing.
-use mathlib.Core.Path.{_≡_, refl, sym, _∙_, ap, subst}
+use mathlib.Core.Path.{_≡_}
 use Prim.Native.Nat.{ℕ, _*_, _<_}
 use native.Mathlib.Nat.{le-trans}
 use native.Mathlib.Omega.{arith}
 use borrow.Author.Needs.{needs}
 use lib.Dec.{T, lit≤}
 use lib.IntN.{ℤ}
-use lib.Ieee.{binary64, inFloat}
-use mir.Facts.{toZ-ofZ}
+use lib.Ieee.{Float, binary64, inFloat}
 use Rattle.algebra.proofs.Bits.{readBack, read-same}
 use Rattle.instants.specs.Limits.{dayMicros}
+use Rattle.instants.specs.declared.Instant.{Instant}
 use Rattle.instants.proofs.Accepted.{accepted-at}
-use Rattle.utc.specs.Inner.{Together}
+use Rattle.utc.specs.PhaseInstants.{PhaseInstant}
+use Rattle.utc.specs.Inner.{partsOf, Together}
 use Rattle.utc.specs.declared.PhaseParts.{PhaseParts}
 use Rattle.utc.proofs.PhaseInstants.{together-accepted}
-use Rattle.tide.specs.Tidal.{argumentsAt}
+use Rattle.tide.specs.declared.Arguments.{Arguments}
+use Rattle.tide.specs.Tidal.{dayFraction, centuries, argumentsOf, argumentsAt}
 use Rattle.tide.proofs.Signed.{accepted-size, size-in-float}
 use Rattle.tide.proofs.arguments_at.Statement.{statement}
 use Rattle.tide.proofs.arguments_at.Tie as tie
@@ -35,39 +37,47 @@ sized x t =
       utc = omega (arith, a .1);
     }
 
--- the day is read back as it was
-day-back : (c : tie.After-struct-told) → readBack (c .before .tt-part .result .day) ≡ c .before .tt-part .result .day
-day-back c = read-same _ (c .struct-told .given .0 .1)
+-- the parts as they are told where the day is read, which is read back as it was
+module _ (c : tie.After-struct-told) where
+  abbrev micros : tie.After-utc-micros
+  micros = c .before
 
-tt-part-requires : tie.Need-tt-part-requires
-tt-part-requires c κs = search needs
+  abbrev part : tie.After-tt-part
+  part = micros .before
+
+  abbrev start : tie.Start
+  start = part .before
+
+  abbrev of : Sized (start .args .p)
+  of = sized (start .args .p) (start .pre)
+
+  day-back : readBack (part .tt-part .result .day) ≡ part .tt-part .result .day
+  day-back = read-same _ (c .struct-told .given .0 .1)
 
 day-fraction-requires : tie.Need-day-fraction-requires
-day-fraction-requires c κs = let s = c .before .before in rw (c .before .tt-part .ensures) (sized (s .args .p) (s .pre) .tt)
+day-fraction-requires c κs = rw (part c .tt-part .ensures) (of c .tt)
 
 julian-centuries-requires : tie.Need-julian-centuries-requires
-julian-centuries-requires c κs = let t = c .before in let s = t .before .before in rw (day-back t, t .before .tt-part .ensures) (sized (s .args .p) (s .pre) .day)
-
-utc-micros-requires : tie.Need-utc-micros-requires
-utc-micros-requires c κs = search needs
+julian-centuries-requires c κs = let d = c .before in rw (day-back d, part d .tt-part .ensures) (of d .day)
 
 day-fraction-requires-2 : tie.Need-day-fraction-requires-2
-day-fraction-requires-2 c κs = let s = c .before .before .before .before .before in rw (c .utc-micros .ensures) (sized (s .args .p) (s .pre) .utc)
+day-fraction-requires-2 c κs = let d = c .before .before in rw (micros d .utc-micros .ensures) (of d .utc)
 
-arguments-of-requires : tie.Need-arguments-of-requires
-arguments-of-requires c κs = search needs
+-- what the calls give, put together
+composed : (p : PhaseParts) (i : Instant) (u : ℕ) (d : ℤ) (f t g : Float) (r : Arguments) → i ≡ p .tt → u ≡ p .utc .micros → d ≡ i .day → f ≡ dayFraction (i .micros) → t ≡ centuries d f
+    → g ≡ dayFraction u → r ≡ argumentsOf g t → (a : PhaseInstant) → p ≡ partsOf a → r ≡ argumentsAt a
+unfolding argumentsAt
+composed p i u d f t g r ei eu ed ef et eg er a ea = rw (er, eg, et, ef, ed, ei, eu, ea)
 
 returns : tie.Need-returns
-unfolding argumentsAt
-returns c a e =
+returns c =
     let f = c .before in
-    let u = f .before in
-    let t = u .before in
+    let t = f .before in
     let m = t .before in
     let d = m .before in
-    rw (c .arguments-of .ensures, f .day-fraction2 .ensures, u .utc-micros .ensures, t .julian-centuries .ensures, day-back d, m .day-fraction .ensures, d .before .tt-part .ensures, e)
+    composed _ _ _ _ _ _ _ _ (part d .tt-part .ensures) (micros d .utc-micros .ensures) (day-back d) (m .day-fraction .ensures) (t .julian-centuries .ensures) (f .day-fraction2 .ensures) (c .arguments-of .ensures)
 
 pub arguments-at-spec : {M : Type 1} → statement M
 arguments-at-spec =
     tie.close
-    (tie.spec tt-part-requires day-fraction-requires julian-centuries-requires utc-micros-requires day-fraction-requires-2 arguments-of-requires returns)
+    (tie.spec (λ c κs. search needs) (λ c κs. search needs) day-fraction-requires julian-centuries-requires day-fraction-requires-2 (λ c κs. search needs) returns)

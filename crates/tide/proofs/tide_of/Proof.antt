@@ -33,20 +33,8 @@ module _ (r : Reading) (k : Doodson) where
       at-both (λ (y : PhaseAnswer) (z : TideAnswer). y ≡ NoPhase n → NoTide n ≡ z) NoPhase NoTide (λ p. AtPhase (partsOf p)) (λ p. answerOf (argumentsAt p) k) r
       (λ m e. ap NoTide (cc)) (λ p _ e. impossible (cc))
 
-phase-parts-requires : tie.Need-phase-parts-requires
-phase-parts-requires c κs = search needs
-
-enum-known-p : tie.Need-enum-known-p
-enum-known-p c = search needs
-
 arguments-at-requires : tie.Need-arguments-at-requires
 arguments-at-requires c κs = let v = c .before in let s = v .before .before in answer-together _ _ (sym (s .phase-parts .ensures) ∙ v .p .given .1)
-
-answer-from-requires : tie.Need-answer-from-requires
-answer-from-requires c κs = search needs
-
-enum-known-n : tie.Need-enum-known-n
-enum-known-n c = search needs
 
 returns : tie.Need-returns
 returns c =
@@ -59,4 +47,4 @@ returns-2 : tie.Need-returns-2
 returns-2 c = let v = c .before in let s = v .before .before in refused _ _ _ (sym (s .phase-parts .ensures) ∙ v .n .given .1)
 
 pub tide-of-spec : {M : Type 1} → statement M
-tide-of-spec = tie.close (tie.spec phase-parts-requires enum-known-p arguments-at-requires answer-from-requires enum-known-n returns returns-2)
+tide-of-spec = tie.close (tie.spec (λ c κs. search needs) (λ c. search needs) arguments-at-requires (λ c κs. search needs) (λ c. search needs) returns returns-2)
