@@ -36,6 +36,24 @@ use Rattle.tide.proofs.Bounded.{bound-finite}
 use Rattle.tide.proofs.Sums.{bounds-at, sum-bound, zero-sum}
 use Rattle.tide.proofs.Range.{zero-in, reduced-in-turn}
 
+-- ---- the answer, as an equation
+
+-- for any input: the refusals of the reading, then those of the multipliers, then the expression
+pub in-full : (r : Reading) (k : Doodson) →
+    let t = ttAt (readingIndex r) (readingMicros r) in
+    tideOf r k ≡ refusedOr NoTide (readingCases r ++ rangeCases k) (Tide (constituentOf (argumentsOf (dayFraction (readingMicros r)) (centuries (t .day) (dayFraction (t .micros)))) k))
+unfolding tideOf answerOf argumentsAt
+in-full r k = in-cases NoTide (λ p. answerOf (argumentsAt p) k) r _ (λ p e. rw (tt-is p, e) refl)
+
+-- PROMISE. At an instant for phases, with multipliers in range, the answer is the expression: 360 f with the fraction of the UTC part, and all else with the
+-- centuries of the TT part.
+pub at-instant : (p : PhaseInstant) (k : Doodson) → T (allInRange k)
+    → tideOf (p .utc) k ≡ Tide (constituentOf (argumentsOf (dayFraction (readingMicros (p .utc))) (centuries (p .tt .day) (dayFraction (p .tt .micros)))) k)
+unfolding tideOf answerOf argumentsAt
+at-instant p k h =
+    at-both (λ (x : TideAnswer) (y : InstantAnswer). y ≡ AtInstant (p .tt) → x ≡ Tide (constituentOf (argumentsAt p) k)) NoTide NoInstant (λ q. answerOf (argumentsAt q) k)
+    (λ q. AtInstant (q .tt)) (p .utc) (λ n e. impossible (cc)) (λ q u e. let t : q .tt ≡ p .tt = cc in rw (is-true (allInRange k) h, u, t) refl) (tt-of-phase (p .utc) ∙ p .together)
+
 -- ---- what holds of every answer
 
 -- it holds at every refusal, and of the numbers at every instant for phases with multipliers in range
@@ -65,24 +83,6 @@ unfolding constituentOf
 frequency-finite r k =
     of-answers (λ (x : TideAnswer). Finite (frequencyOf x)) (λ n. tt) k
     (λ p h. let b = bounds-at p in bound-finite (sum-bound k h (b .dd1) (b .dd2) (b .dd3) (b .dd4) (b .dd5) (b .dd6))) r
-
--- ---- the answer, as an equation
-
--- PROMISE. At an instant for phases, with multipliers in range, the answer is the expression: 360 f with the fraction of the UTC part, and all else with the
--- centuries of the TT part.
-pub at-instant : (p : PhaseInstant) (k : Doodson) → T (allInRange k)
-    → tideOf (p .utc) k ≡ Tide (constituentOf (argumentsOf (dayFraction (readingMicros (p .utc))) (centuries (p .tt .day) (dayFraction (p .tt .micros)))) k)
-unfolding tideOf answerOf argumentsAt
-at-instant p k h =
-    at-both (λ (x : TideAnswer) (y : InstantAnswer). y ≡ AtInstant (p .tt) → x ≡ Tide (constituentOf (argumentsAt p) k)) NoTide NoInstant (λ q. answerOf (argumentsAt q) k)
-    (λ q. AtInstant (q .tt)) (p .utc) (λ n e. impossible (cc)) (λ q u e. let t : q .tt ≡ p .tt = cc in rw (is-true (allInRange k) h, u, t) refl) (tt-of-phase (p .utc) ∙ p .together)
-
--- for any input: the refusals of the reading, then those of the multipliers, then the expression
-pub in-full : (r : Reading) (k : Doodson) →
-    let t = ttAt (readingIndex r) (readingMicros r) in
-    tideOf r k ≡ refusedOr NoTide (readingCases r ++ rangeCases k) (Tide (constituentOf (argumentsOf (dayFraction (readingMicros r)) (centuries (t .day) (dayFraction (t .micros)))) k))
-unfolding tideOf answerOf argumentsAt
-in-full r k = in-cases NoTide (λ p. answerOf (argumentsAt p) k) r _ (λ p e. rw (tt-is p, e) refl)
 
 -- ---- six zeros
 zero-reduced : reduced zero64 ≡ zero64

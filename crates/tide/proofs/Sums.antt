@@ -12,7 +12,6 @@ use lib.Ieee.{Float, ofInt}
 use Rattle.instants.specs.Limits.{dayMicros}
 use Rattle.instants.specs.Instants.{dayIndex}
 use Rattle.instants.proofs.Accepted.{accepted-at}
-use Rattle.utc.specs.Readings.{readingMicros}
 use Rattle.utc.specs.PhaseInstants.{PhaseInstant}
 use Rattle.utc.proofs.PhaseInstants.{parts-accepted, utc-less}
 use Rattle.tide.specs.declared.Doodson.{Doodson}
@@ -114,8 +113,8 @@ bounds-at p =
     let d = p .tt .day in
     let m = p .tt .micros in
     let a = parts-accepted p .2 in
-    let f = fraction-bound m (omega (arith, accepted-at d m (dayIndex d) a .less)) in
-    bounds-of (dayFraction (readingMicros (p .utc))) (centuries d (dayFraction m)) (fraction-bound _ (omega (arith, utc-less p))) (centuries-bound d (dayFraction m) (accepted-size d m a) f)
+    let h = accepted-at d m (dayIndex d) a .less in
+    bounds-of _ _ (fraction-bound _ (omega (arith, utc-less p, h))) (centuries-bound _ _ (accepted-size d m a) (fraction-bound _ (omega (arith, utc-less p, h))))
 
 -- ---- the sums
 multiplier : (z : ℤ) → T (inRange z) → Bound 12 (whole z)

@@ -54,14 +54,20 @@ module _ (c : tie.After-struct-told) where
   day-back : readBack (part .tt-part .result .day) ≡ part .tt-part .result .day
   day-back = read-same _ (c .struct-told .given .0 .1)
 
+  tt-less : part .tt-part .result .micros < 2 * dayMicros
+  tt-less = rw (part .tt-part .ensures) (of .tt)
+
+  utc-less : micros .utc-micros .result < 2 * dayMicros
+  utc-less = rw (micros .utc-micros .ensures) (of .utc)
+
 day-fraction-requires : tie.Need-day-fraction-requires
-day-fraction-requires c κs = rw (part c .tt-part .ensures) (of c .tt)
+day-fraction-requires c κs = omega (arith, tt-less c, utc-less c)
 
 julian-centuries-requires : tie.Need-julian-centuries-requires
 julian-centuries-requires c κs = let d = c .before in rw (day-back d, part d .tt-part .ensures) (of d .day)
 
 day-fraction-requires-2 : tie.Need-day-fraction-requires-2
-day-fraction-requires-2 c κs = let d = c .before .before in rw (micros d .utc-micros .ensures) (of d .utc)
+day-fraction-requires-2 c κs = let d = c .before .before in omega (arith, tt-less d, utc-less d)
 
 -- what the calls give, put together
 composed : (p : PhaseParts) (i : Instant) (u : ℕ) (d : ℤ) (f t g : Float) (r : Arguments) → i ≡ p .tt → u ≡ p .utc .micros → d ≡ i .day → f ≡ dayFraction (i .micros) → t ≡ centuries d f
