@@ -1,6 +1,7 @@
 -- `utc::phase_parts` meets its contract: a reading is refused by the same cases as its time, and both parts of an accepted one are of that time.
 -- Assumes nothing.
 use mathlib.Core.Path.{_≡_, refl, _∙_, ap, sym}
+use native.Mathlib.Omega.{arith}
 use borrow.Author.Needs.{needs}
 use Rattle.instants.specs.declared.Instant.{Instant}
 use Rattle.instants.proofs.FirstRefusal.{handed-on}
@@ -39,7 +40,7 @@ unfolding readingAcceptance phaseAnswer
 matched r = handed-on NoUtc byTime (λ k. refl) (readingCases r) _ ∙ sym (in-cases NoPhase (λ p. AtPhase (partsOf p)) r _ (same r))
 
 tt-at-requires : tie.Need-tt-at-requires
-tt-at-requires c κs = let v = c .before in let s = v .before .before in accepted-small _ _ (sym (s .accept .ensures) ∙ v .t .given .1)
+tt-at-requires c κs = let v = c .before in let s = v .before .before in let a = accepted-small _ _ (sym (s .accept .ensures) ∙ v .t .given .1) in (a .0, omega (arith, a .1))
 
 returns : tie.Need-returns
 returns c = let v = c .before in let s = v .before .before in rw (← matched, ← s .accept .ensures, v .n .given .1)
