@@ -130,8 +130,7 @@ static int record_and_read(int64_t day, uint64_t micros, int32_t ut1, int32_t lo
     return 0;
 }
 
-/* What the daemon gives for one instant, beside the phase. Any of these calls could refuse it; all would say the same.
- */
+/* What the daemon gives for any instant. Each of these calls could refuse it, and all would say the same. */
 static int serve(int64_t day, uint64_t micros)
 {
     int32_t ut1, lod, rate;
