@@ -81,8 +81,8 @@ extern "C" {
  *                              microsecond, 2, 0, 0, 0, 0, 0, &frequency, &phase);
  *
  * A call with the earlier parameters does not compile. An object file that was
- * compiled with an earlier header still links, and gets wrong answers from these
- * four calls: compile it anew.
+ * compiled with an earlier header has to be compiled anew. It still links, but a
+ * day number that was accepted is now taken for a year, and refused by 1.
  */
 #define ENFYS_VERSION_MAJOR 2
 #define ENFYS_VERSION_MINOR 0
