@@ -121,6 +121,6 @@ uint32_t model_tide(const uint64_t f[7], const int64_t k[6], double *frequency, 
         tt.micros = utc[0];
     }
     *frequency = model_frequency(tt, k);
-    *phase = model_phase(tt, utc[MISTAKE(105, 0, 1)] % MISTAKE(103, 2 * DAY_MICROS, DAY_MICROS), k);
+    *phase = model_phase(tt, utc[MISTAKE(105, 0, 1)] % MISTAKE(103, 2 * DAY_MICROS, DAY_MICROS /* 60 as 0 */), k);
     return 0;
 }
