@@ -1,4 +1,7 @@
-/* Dates and UTC in plain C that is written for speed, for the benchmark to time the library beside. */
+/*
+ * Dates and UTC in plain C that is written for speed, and phases by it, for the benchmark to time the library
+ * beside.
+ */
 #ifndef PLAIN_H
 #define PLAIN_H
 
@@ -105,6 +108,38 @@ static uint32_t tt_plain_to_utc(struct instant tt, uint64_t f[7])
     f[3] = (uint64_t)(second % 86400 / 3600), f[4] = (uint64_t)(second % 3600 / 60);
     f[5] = (uint64_t)(second % 60 + leap), f[6] = (uint64_t)(tai % 1000000);
     return 0;
+}
+
+/* The microseconds since 0 h UTC of an accepted reading. */
+static uint64_t utc_plain_micros(const uint64_t f[7])
+{
+    return (3600 * f[3] + 60 * f[4] + f[5]) * 1000000 + f[6];
+}
+
+/*
+ * Frequency and phase for a reading: accepted and turned to TT as above, the expressions as in the model. Each is a
+ * call of its own, as the library's are.
+ */
+__attribute__((noinline)) static uint32_t tide_plain(const uint64_t f[7], const int64_t k[6], double *frequency,
+                                                     double *phase)
+{
+    struct instant tt;
+    uint32_t refusal = utc_plain_to_tt(f, &tt);
+
+    if (refusal == 0)
+        refusal = model_multipliers(k);
+    if (refusal == 0) {
+        *frequency = model_frequency(tt, k);
+        *phase = model_phase(tt, utc_plain_micros(f), k);
+    }
+    return refusal;
+}
+
+__attribute__((noinline)) static double tide_plain_phase(const uint64_t f[7], const int64_t k[6])
+{
+    struct instant tt;
+
+    return utc_plain_to_tt(f, &tt) || model_multipliers(k) ? 0.0 : model_phase(tt, utc_plain_micros(f), k);
 }
 
 #endif

@@ -1,8 +1,9 @@
 /*
  * How a daemon uses the library: it reads the two clock words of the unit, notices a torn read,
- * and gives phase, corrections and offsets for that instant; and the same for UTC times as an
- * operator types them. At the end it shows what each refusal means. The clock and the operator here
- * are made up; nothing of this file is part of the proved product.
+ * and gives corrections and offsets for that instant, and the phase for its UTC; and the same for UTC
+ * times as an operator types them. Where the library has no UTC the unit goes on without a phase. At the
+ * end it shows what each refusal means. The clock and the operator here are made up; nothing of this file
+ * is part of the proved product.
  *
  *     cc -O2 -Iinclude examples/daemon.c target/staticlib/libenfysgar.a -lm -o daemon
  *     ./daemon ['2016-12-31 23:59:60.5' ..]
@@ -51,22 +52,24 @@ static int refused(uint32_t refusal)
 }
 
 /*
- * The unit's clock, as the daemon sees it: two words that are read one after the other. In this
- * example midnight passes between the first two reads.
+ * The unit's clock, as the daemon sees it: two words of TT that are read one after the other. In this
+ * example midnight passes during the first read, and the third is of a day when the list of leap seconds
+ * has expired.
  */
 struct words {
     int64_t day;
     uint64_t time;
 };
 
-static struct words read_clock(int attempt)
+static struct words read_clock(int read)
 {
-    /* 2007-12-31, four microseconds before midnight, and one microsecond after it. */
-    struct words before = {0, 0}, after = {0, 0};
+    /* 2007-12-31, four microseconds before midnight, and one microsecond after it; 2026-11-16, noon. */
+    struct words before = {0, 0}, after = {0, 0}, late = {0, 0};
 
     enfys_split(54465, 86399999996, &before.day, &before.time);
     enfys_split(54466, 1, &after.day, &after.time);
-    return attempt == 1 ? (struct words){before.day, after.time} : after;
+    enfys_split(61360, 43200000000, &late.day, &late.time);
+    return read == 1 ? (struct words){before.day, after.time} : read == 2 ? after : late;
 }
 
 static void show_bytes(const uint8_t *bytes, size_t length)
@@ -87,17 +90,17 @@ static int show_instant(int64_t day, uint64_t micros)
     return 0;
 }
 
-/* The UTC of an instant; the table may not have it, and the unit goes on without. */
-static void show_utc(int64_t day, uint64_t micros)
+/* A UTC reading f, and the phase of M2 then. */
+static int show_phase(const uint64_t f[7])
 {
-    uint64_t year, month, day_of_month, hour, minute, second, microsecond;
-    uint32_t refusal =
-        enfys_tt_to_utc(day, micros, &year, &month, &day_of_month, &hour, &minute, &second, &microsecond);
+    double frequency, phase;
 
-    if (refused(refusal))
-        return;
     printf("  UTC %04" PRIu64 "-%02" PRIu64 "-%02" PRIu64 " %02" PRIu64 ":%02" PRIu64 ":%02" PRIu64 ".%06" PRIu64 "\n",
-           year, month, day_of_month, hour, minute, second, microsecond);
+           f[0], f[1], f[2], f[3], f[4], f[5], f[6]);
+    if (refused(enfys_tide(f[0], f[1], f[2], f[3], f[4], f[5], f[6], 2, 0, 0, 0, 0, 0, &frequency, &phase)))
+        return 1;
+    printf("  M2 phase %.9f degrees, frequency %.12f cycles per day\n", phase, frequency);
+    return 0;
 }
 
 /* Writes a record of an instant and its corrections, reads it back, and reads it with a bit changed. */
@@ -127,26 +130,37 @@ static int record_and_read(int64_t day, uint64_t micros, int32_t ut1, int32_t lo
     return 0;
 }
 
-/* Everything the daemon gives for one instant. Any of these calls could refuse it; all but UTC would say the same. */
+/* What the daemon gives for any instant. Each of these calls could refuse it, and all would say the same. */
 static int serve(int64_t day, uint64_t micros)
 {
-    double frequency, phase;
     int32_t ut1, lod, rate;
     int64_t x, y;
     uint64_t uncertainty;
 
-    if (show_instant(day, micros) != 0)
-        return 1;
-    show_utc(day, micros);
-    if (refused(enfys_tide(day, micros, 2, 0, 0, 0, 0, 0, &frequency, &phase)) ||
-        refused(enfys_zonal(day, micros, &ut1, &lod, &rate)) ||
+    if (refused(enfys_zonal(day, micros, &ut1, &lod, &rate)) ||
         refused(enfys_nutation(day, micros, &x, &y, &uncertainty)))
         return 1;
-    printf("  M2 phase %.9f degrees, frequency %.12f cycles per day\n", phase, frequency);
     printf("  zonal tides: UT1 %" PRId32 " ns, length of day %" PRId32 " ps, rate %" PRId32 "e-20 rad/s\n", ut1, lod,
            rate);
     printf("  nutation: X %" PRId64 " nas, Y %" PRId64 " nas, uncertainty %" PRIu64 " nas\n", x, y, uncertainty);
     return record_and_read(day, micros, ut1, lod, rate);
+}
+
+/*
+ * What the unit gives for its clock: everything for the instant, and the phase for its UTC. There may be no UTC,
+ * before 1972 and from the expiry of the list of leap seconds on; the rest does not need it.
+ */
+static int serve_clock(int64_t day, uint64_t micros)
+{
+    uint64_t f[7];
+
+    if (show_instant(day, micros) != 0)
+        return 1;
+    if (refused(enfys_tt_to_utc(day, micros, &f[0], &f[1], &f[2], &f[3], &f[4], &f[5], &f[6])))
+        printf("  no UTC, and no phase\n");
+    else if (show_phase(f) != 0)
+        return 1;
+    return serve(day, micros);
 }
 
 static int is_digit(char c)
@@ -179,7 +193,7 @@ static int parse(const char *text, uint64_t field[7])
     return *text == '\0' && unit < 100000;
 }
 
-/* What an operator gets for a UTC time. */
+/* What an operator gets for a UTC time: the phase for the reading as it was typed, the rest for its instant. */
 static int serve_typed(const char *text)
 {
     uint64_t f[7], micros;
@@ -192,6 +206,8 @@ static int serve_typed(const char *text)
     }
     if (refused(enfys_utc_to_tt(f[0], f[1], f[2], f[3], f[4], f[5], f[6], &day, &micros)))
         return 0;
+    if (show_instant(day, micros) != 0 || show_phase(f) != 0)
+        return 1;
     return serve(day, micros);
 }
 
@@ -223,7 +239,7 @@ static void show_refusals(void)
     show(enfys_zonal_refusal(88434, 0), "corrections for day 88434");
     show(enfys_zonal_refusal(88433, ENFYS_DAY_MICROS), "corrections at the 86400000000th microsecond");
     show(enfys_join_refusal(54465, 2 * UINT64_C(137438953472)), "a day word and the next day's time word");
-    show(enfys_tide_refusal(54465, 0, 2, 0, 0, 0, 0, 13), "a phase with the multiplier 13");
+    show(enfys_tide_refusal(2009, 6, 25, 0, 0, 0, 0, 2, 0, 0, 0, 0, 13), "a phase with the multiplier 13");
     show(enfys_record_refusal(record, 29), "reading 29 bytes");
     show(enfys_record_refusal(damaged[0], sizeof record), "a record that says it has 31 bytes");
     show(enfys_record_refusal(damaged[1], sizeof record), "a record of version 2");
@@ -242,8 +258,8 @@ int main(int argc, char **argv)
         "2025-06-28 00:00:00", "2009-06-25 0:00",       "2009-06-25 00:00:00.1234567",
     };
 
-    for (int attempt = 1; attempt <= 3; attempt++) {
-        struct words words = read_clock(attempt);
+    for (int read = 1; read <= 3; read++) {
+        struct words words = read_clock(read);
         int64_t day;
         uint64_t micros;
         uint32_t refusal = enfys_join(words.day, words.time, &day, &micros);
@@ -254,9 +270,8 @@ int main(int argc, char **argv)
                 continue;
             return 1;
         }
-        if (serve(day, micros) != 0)
+        if (serve_clock(day, micros) != 0)
             return 1;
-        break;
     }
     for (size_t i = 0; i < sizeof typed / sizeof *typed; i++)
         if (serve_typed(typed[i]) != 0)

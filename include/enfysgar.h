@@ -48,7 +48,8 @@
  *            it by 32.184 s and the whole seconds of TAI - UTC, which leap seconds
  *            change.
  *   reading  a date and a time of day in UTC: year, month, day of the month, hour,
- *            minute, second, and microsecond of the second.
+ *            minute, second, and microsecond of the second. The calls of (d) and
+ *            enfys_utc_to_tt take one; the time that any other call takes is TT.
  *
  * This software is derived from routines of the IERS Conventions. It is not IERS
  * Conventions software, and is neither distributed nor endorsed by the IERS
@@ -67,11 +68,26 @@ extern "C" {
 /*
  * The version. Its major number rises where a call changes its meaning or its
  * parameters, the minor number where calls are added, the patch number otherwise.
+ *
+ * 2.0.0 changes the four calls of (d), enfys_tide and enfys_tide_*. They take a UTC
+ * reading where they took the day and micros of TT, and the hour angle in the phase
+ * is that of UTC. Code that has UTC hands the seven numbers on. Code that has an
+ * instant asks for its reading first:
+ *
+ *     refusal = enfys_tt_to_utc(day, micros, &year, &month, &day_of_month, &hour,
+ *                               &minute, &second, &microsecond);
+ *     if (refusal == ENFYS_OK)
+ *         refusal = enfys_tide(year, month, day_of_month, hour, minute, second,
+ *                              microsecond, 2, 0, 0, 0, 0, 0, &frequency, &phase);
+ *
+ * A call with the earlier parameters does not compile. An object file that was
+ * compiled with an earlier header has to be compiled anew. It still links, but a
+ * day number that was accepted is now taken for a year, and refused by 1.
  */
-#define ENFYS_VERSION_MAJOR 1
-#define ENFYS_VERSION_MINOR 2
+#define ENFYS_VERSION_MAJOR 2
+#define ENFYS_VERSION_MINOR 0
 #define ENFYS_VERSION_PATCH 0
-#define ENFYS_VERSION_STRING "1.2.0"
+#define ENFYS_VERSION_STRING "2.0.0"
 
 /*
  * Refusal numbers. 0 is success. Where several apply, the first in the order
@@ -166,19 +182,29 @@ uint32_t enfys_join(int64_t day_word, uint64_t time_word, int64_t *day,
 
 /*
  * (d) Frequency, in cycles per day, and phase, in degrees, of the tidal
- * constituent with the six Doodson multipliers k1..k6 (M2 is 2, 0, 0, 0, 0, 0).
- * The phase is at least 0 and below 360, never minus zero. Both are fixed to the
- * bit: binary64, each operation rounded once, in one order (see above on the
- * floating-point environment). Six zero multipliers give +0 and +0.
- * Refused: 8, 9, 11, in this order.
+ * constituent with the six Doodson multipliers k1..k6 (M2 is 2, 0, 0, 0, 0, 0), at
+ * a UTC reading. The phase is at least 0 and below 360, never minus zero. Both are
+ * fixed to the bit: binary64, each operation rounded once, in one order (see above
+ * on the floating-point environment). Six zero multipliers give +0 and +0.
+ *
+ * The arguments of Moon and Sun, and the frequency, are those of the reading's TT,
+ * the instant that enfys_utc_to_tt gives. The hour angle alone is that of UTC: 360
+ * degrees times the microseconds since 0 h UTC divided by 86400000000. In second 60
+ * that quotient is 1 or a little more, and at the 0 h after it the count starts
+ * anew: the phase steps back there by k1 / 240 degrees.
+ *
+ * Refused, in this order: 1 to 7, 19, 20 (those of the reading, as in
+ * enfys_utc_to_tt), 11. The list of leap seconds expired on 2025-06-28: from that
+ * day on phases are refused by 20, those of today too (see (h)).
  *
  * Left to the caller: the phase is that of the expression, without the 90 degrees
  * that are subtracted where degree plus species is odd, and without the 180 that
- * some normalizations of the potential add. The hour angle in it is that of the
- * instant's TT. With the hour angle of UT1 the phase would be smaller by
- * 360 * k1 * (TT - UT1) / day degrees: for M2 by about half a degree in 2009.
+ * some normalizations of the potential add. UT1 is taken to be UTC, from which it
+ * is less than 0.9 s away: less than 0.004 * k1 degrees.
  */
-uint32_t enfys_tide(int64_t day, uint64_t micros, int64_t k1, int64_t k2, int64_t k3,
+uint32_t enfys_tide(uint64_t year, uint64_t month, uint64_t day_of_month,
+                    uint64_t hour, uint64_t minute, uint64_t second,
+                    uint64_t microsecond, int64_t k1, int64_t k2, int64_t k3,
                     int64_t k4, int64_t k5, int64_t k6, double *frequency,
                     double *phase);
 
@@ -261,8 +287,8 @@ uint32_t enfys_run_write(int64_t day, uint64_t micros, uint64_t count,
  * 2025-06-28. The range of readings is from 1972-01-01 up to that day, without it.
  * From that day on there may be leap seconds that this version does not know: it
  * refuses by 20 rather than guess. That day has passed, so that UTC of today is
- * refused. A later list needs a later version of the library, in which
- * ENFYS_UTC_EXPIRY_DAY tells a daemon how long it will do.
+ * refused, and with it the phases of (d). A later list needs a later version of the
+ * library, in which ENFYS_UTC_EXPIRY_DAY tells a daemon how long it will do.
  */
 
 /*
@@ -326,12 +352,18 @@ uint64_t enfys_join_micros(int64_t day_word, uint64_t time_word);
 uint32_t enfys_join_refusal(int64_t day_word, uint64_t time_word);
 
 /* (d) Frequency and phase, as in enfys_tide. */
-double enfys_tide_frequency(int64_t day, uint64_t micros, int64_t k1, int64_t k2,
-                            int64_t k3, int64_t k4, int64_t k5, int64_t k6);
-double enfys_tide_phase(int64_t day, uint64_t micros, int64_t k1, int64_t k2,
-                        int64_t k3, int64_t k4, int64_t k5, int64_t k6);
-uint32_t enfys_tide_refusal(int64_t day, uint64_t micros, int64_t k1, int64_t k2,
-                            int64_t k3, int64_t k4, int64_t k5, int64_t k6);
+double enfys_tide_frequency(uint64_t year, uint64_t month, uint64_t day_of_month,
+                            uint64_t hour, uint64_t minute, uint64_t second,
+                            uint64_t microsecond, int64_t k1, int64_t k2, int64_t k3,
+                            int64_t k4, int64_t k5, int64_t k6);
+double enfys_tide_phase(uint64_t year, uint64_t month, uint64_t day_of_month,
+                        uint64_t hour, uint64_t minute, uint64_t second,
+                        uint64_t microsecond, int64_t k1, int64_t k2, int64_t k3,
+                        int64_t k4, int64_t k5, int64_t k6);
+uint32_t enfys_tide_refusal(uint64_t year, uint64_t month, uint64_t day_of_month,
+                            uint64_t hour, uint64_t minute, uint64_t second,
+                            uint64_t microsecond, int64_t k1, int64_t k2, int64_t k3,
+                            int64_t k4, int64_t k5, int64_t k6);
 
 /* (e) The three corrections, as in enfys_zonal. */
 int32_t enfys_zonal_ut1(int64_t day, uint64_t micros);

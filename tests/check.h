@@ -43,7 +43,7 @@ uint64_t bits_of(double x);
 /* Two doubles with the same bits: +0 and -0 differ. */
 #define SAME_BITS(call, expected, ...) \
     SAME(double, bits_of(got_) == bits_of(expected_), text_double, call, expected, __VA_ARGS__)
-/* A whole number at most `distance` from a double. A distance that is NaN is not met. */
+/* A number at most `distance` from a double. A distance that is NaN is not met. */
 #define WITHIN(distance, call, expected, ...)                                                                       \
     SAME(double, (got_ >= expected_ - (distance)) && (got_ <= expected_ + (distance)), text_double, (double)(call), \
          expected, __VA_ARGS__)
@@ -80,10 +80,9 @@ int whole(const char *call, uint32_t got, uint32_t refusal, const struct number 
 extern char places_got[], places_expected[];
 
 /* The seven fields f of a date and a time of day: for a message, and as arguments. */
-#define FIELDS                                                                                                         \
-    "%" PRIu64 "-%" PRIu64 "-%" PRIu64 " %" PRIu64 ":%" PRIu64 ":%" PRIu64 ", microsecond %" PRIu64, f[0], f[1], f[2], \
-        f[3], f[4], f[5], f[6]
+#define FIELDS_TEXT "%" PRIu64 "-%" PRIu64 "-%" PRIu64 " %" PRIu64 ":%" PRIu64 ":%" PRIu64 ", microsecond %" PRIu64
 #define SEVEN f[0], f[1], f[2], f[3], f[4], f[5], f[6]
+#define FIELDS FIELDS_TEXT, SEVEN
 
 /* A random number: of 64 bits, from 0 to n - 1, from low to high. */
 uint64_t any(void);

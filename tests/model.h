@@ -58,13 +58,15 @@ uint32_t model_split(struct instant at, struct instant *words);
 uint32_t model_join(struct instant words, struct instant *at);
 
 /*
- * Tidal frequency and phase, and the polynomials of l, l', F, D and Omega in degrees, coefficients of
- * 1, t, t^2, t^3, t^4 (model_tide.c).
+ * Tidal frequency and phase for a UTC reading, in the fields of model_instant; and each for an accepted one, given by
+ * its instant and its microseconds since 0 h UTC. The polynomials of l, l', F, D and Omega are in degrees,
+ * coefficients of 1, t, t^2, t^3, t^4 (model_tide.c).
  */
 extern const double model_delaunay[5][5];
-uint32_t model_tide_refusal(struct instant at, const int64_t k[6]);
-double model_frequency(struct instant at, const int64_t k[6]);
-double model_phase(struct instant at, const int64_t k[6]);
+uint32_t model_tide(const uint64_t field[7], const int64_t k[6], double *frequency, double *phase);
+double model_frequency(struct instant tt, const int64_t k[6]);
+double model_phase(struct instant tt, uint64_t utc, const int64_t k[6]);
+uint32_t model_multipliers(const int64_t k[6]);
 
 /* The three corrections of an accepted instant, in the units of the answers (model_zonal.c). */
 void model_zonal(struct instant at, double number[3]);

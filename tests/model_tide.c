@@ -52,19 +52,19 @@ static double remove_turns(double degrees)
     return p;
 }
 
-static double day_fraction(struct instant at)
+static double day_fraction(uint64_t micros)
 {
-    return (double)at.micros / 86400000000.0;
+    return (double)micros / 86400000000.0;
 }
 
-static double centuries(struct instant at)
+static double centuries(struct instant tt)
 {
-    return (((double)(at.day - 51544) - MISTAKE(14, 0.5, 0.0)) + day_fraction(at)) / 36525.0;
+    return (((double)(tt.day - 51544) - MISTAKE(14, 0.5, 0.0)) + day_fraction(tt.micros)) / 36525.0;
 }
 
-double model_phase(struct instant at, const int64_t k[6])
+double model_phase(struct instant tt, uint64_t utc, const int64_t k[6])
 {
-    double t = centuries(at), angle[5], v[6];
+    double t = centuries(tt), angle[5], v[6];
 
     for (int i = 0; i < 5; i++) {
         const double *c = model_delaunay[i];
@@ -72,13 +72,13 @@ double model_phase(struct instant at, const int64_t k[6])
 
         angle[i] = first + t * (c[1] + t * (c[2] + t * (c[3] + t * c[4])));
     }
-    doodson(360.0 * day_fraction(at), angle, v);
+    doodson(360.0 * day_fraction(MISTAKE(101, utc, tt.micros)), angle, v);
     return remove_turns(sum(k, v));
 }
 
-double model_frequency(struct instant at, const int64_t k[6])
+double model_frequency(struct instant tt, const int64_t k[6])
 {
-    double t = centuries(at), speed[5], v[6];
+    double t = centuries(tt), speed[5], v[6];
 
     for (int i = 0; i < 5; i++)
         speed[i] = motion[i][0] + motion[i][1] * t;
@@ -86,14 +86,41 @@ double model_frequency(struct instant at, const int64_t k[6])
     return sum(k, v);
 }
 
-uint32_t model_tide_refusal(struct instant at, const int64_t k[6])
+/* 11 where a multiplier is out of range, otherwise 0. */
+uint32_t model_multipliers(const int64_t k[6])
 {
-    uint32_t refusal = model_accept(at);
+    for (int i = 0; i < MISTAKE(108, 6, 5); i++)
+        if ((k[i] < -12 && MISTAKE(109, 1, k[i] != INT64_MIN)) || k[i] > MISTAKE(13, 12, 13))
+            return 11;
+    return 0;
+}
 
+/* Whether 11 comes before another refusal, which it never does. */
+static int too_early(uint32_t refusal)
+{
+    return (refusal == 19 && MISTAKE(104, 0, 1)) || (refusal == 20 && MISTAKE(106, 0, 1)) ||
+           (refusal <= 7 && MISTAKE(107, 0, 1));
+}
+
+uint32_t model_tide(const uint64_t f[7], const int64_t k[6], double *frequency, double *phase)
+{
+    static uint64_t utc[2]; /* the UTC part of the reading, and that of the one before it for a mistake */
+    struct instant tt;
+    uint32_t refusal = model_utc_to_tt(f, &tt);
+
+    *frequency = 0.0;
+    *phase = 0.0;
+    if (model_multipliers(k) && (refusal == 0 || too_early(refusal)))
+        return 11;
     if (refusal)
         return refusal;
-    for (int i = 0; i < 6; i++)
-        if (k[i] < -12 || k[i] > MISTAKE(13, 12, 13))
-            return 11;
+    utc[1] = utc[0];
+    utc[0] = ((f[3] * 60 + f[4]) * 60 + f[5]) * 1000000 + f[6];
+    if (MISTAKE(102, 0, 1)) { /* t of the UTC part */
+        model_day_of_date((struct date){f[0], f[1], f[2]}, &tt.day);
+        tt.micros = utc[0];
+    }
+    *frequency = model_frequency(tt, k);
+    *phase = model_phase(tt, utc[MISTAKE(105, 0, 1)] % MISTAKE(103, 2 * DAY_MICROS, DAY_MICROS /* 60 as 0 */), k);
     return 0;
 }

@@ -30,7 +30,7 @@ static int whole_answers(int64_t day, uint64_t micros, const uint8_t bytes[ENFYS
     number[n++] = enfys_instant(u[0], u[1], u[2], 23, 59, 59, micros % 1000000, &i[1], &u[3]);
     number[n++] = enfys_split(day, micros, &i[2], &u[4]);
     number[n++] = enfys_join(i[2], u[4], &i[3], &u[5]);
-    number[n++] = enfys_tide(day, micros, 2, -1, 3, 0, 1, -2, &tide[0], &tide[1]);
+    number[n++] = enfys_tide(u[0], u[1], u[2], 23, 59, 59, micros % 1000000, 2, -1, 3, 0, 1, -2, &tide[0], &tide[1]);
     number[n++] = enfys_zonal(day, micros, &s[0], &s[1], &s[2]);
     number[n++] = enfys_nutation(day, micros, &i[4], &i[5], &u[6]);
     number[n++] = enfys_record_read(bytes, ENFYS_RECORD_BYTES, &i[6], &u[7], &s[3], &s[4], &s[5]);
@@ -47,9 +47,10 @@ static int whole_answers(int64_t day, uint64_t micros, const uint8_t bytes[ENFYS
     return n;
 }
 
-/* The numbers of an instant in UTC, and those of a UTC time of its date. */
+/* The numbers of an instant in UTC, and those of a UTC time of its date: instant, frequency and phase. */
 static int utc(int64_t day, uint64_t micros, uint64_t year, uint64_t month, uint64_t date, uint64_t *number)
 {
+    double tide[2];
     int n = 0;
 
     number[n++] = (uint64_t)enfys_utc_to_tt_day(year, month, date, 23, 59, 59, micros % 1000000);
@@ -63,6 +64,11 @@ static int utc(int64_t day, uint64_t micros, uint64_t year, uint64_t month, uint
     number[n++] = enfys_tt_to_utc_second(day, micros);
     number[n++] = enfys_tt_to_utc_microsecond(day, micros);
     number[n++] = enfys_tt_to_utc_refusal(day, micros);
+    number[n++] = enfys_tide_refusal(year, month, date, 23, 59, 59, micros % 1000000, 2, -1, 3, 0, 1, -2);
+    tide[0] = enfys_tide_frequency(year, month, date, 23, 59, 59, micros % 1000000, 2, -1, 3, 0, 1, -2);
+    tide[1] = enfys_tide_phase(year, month, date, 23, 59, 59, micros % 1000000, 2, -1, 3, 0, 1, -2);
+    for (int k = 0; k < 2; k++)
+        number[n++] = MISTAKE(61, 0, bits_of(tide[k]));
     return n;
 }
 
@@ -105,8 +111,6 @@ static int answers(int64_t day, uint64_t micros, uint64_t number[NUMBERS])
     number[n++] = (uint64_t)enfys_record_ut1(run, sizeof run) ^ (uint64_t)enfys_record_lod(run, sizeof run) << 20;
     number[n++] = (uint64_t)enfys_record_rate(run, sizeof run);
     number[n++] = enfys_record_refusal(run, sizeof run);
-    number[n++] = MISTAKE(61, 0, bits_of(enfys_tide_frequency(day, micros, 2, -1, 3, 0, 1, -2)));
-    number[n++] = MISTAKE(61, 0, bits_of(enfys_tide_phase(day, micros, 2, -1, 3, 0, 1, -2)));
     n += utc(day, micros, year, month, date, number + n);
     return n + whole_answers(day, micros, run, number + n);
 }
