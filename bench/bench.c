@@ -32,13 +32,16 @@ static volatile double sink;
 /* What is timed: one call, or one group of calls, for input i. It returns a number that depends on the answers. */
 typedef double work(int i);
 
+/* The thirteen numbers of input i that a phase is asked for with. */
+#define TIDE_OF(i)                                                                                              \
+    reading[i][0], reading[i][1], reading[i][2], reading[i][3], reading[i][4], reading[i][5], reading[i][6],    \
+        multiplier[i][0], multiplier[i][1], multiplier[i][2], multiplier[i][3], multiplier[i][4], multiplier[i][5]
+
 static double constituent(int i)
 {
-    const uint64_t *f = reading[i];
-    const int64_t *k = multiplier[i];
     double frequency = 0.0, phase = 0.0;
 
-    enfys_tide(f[0], f[1], f[2], f[3], f[4], f[5], f[6], k[0], k[1], k[2], k[3], k[4], k[5], &frequency, &phase);
+    enfys_tide(TIDE_OF(i), &frequency, &phase);
     return frequency + phase;
 }
 
@@ -46,21 +49,18 @@ static double constituent_plain(int i)
 {
     double frequency = 0.0, phase = 0.0;
 
-    tide_plain(reading[i], multiplier[i], &frequency, &phase);
+    tide_plain(TIDE_OF(i), &frequency, &phase);
     return frequency + phase;
 }
 
 static double phase(int i)
 {
-    const uint64_t *f = reading[i];
-    const int64_t *k = multiplier[i];
-
-    return enfys_tide_phase(f[0], f[1], f[2], f[3], f[4], f[5], f[6], k[0], k[1], k[2], k[3], k[4], k[5]);
+    return enfys_tide_phase(TIDE_OF(i));
 }
 
 static double phase_plain(int i)
 {
-    return tide_plain_phase(reading[i], multiplier[i]);
+    return tide_plain_phase(TIDE_OF(i));
 }
 
 static double corrections(int i)

@@ -118,11 +118,18 @@ static uint64_t utc_plain_micros(const uint64_t f[7])
 
 /*
  * Frequency and phase for a reading: accepted and turned to TT as above, the expressions as in the model. Each is a
- * call of its own, as the library's are.
+ * call of its own, with the parameters that the library's has.
  */
-__attribute__((noinline)) static uint32_t tide_plain(const uint64_t f[7], const int64_t k[6], double *frequency,
-                                                     double *phase)
+#define TIDE_PARAMETERS                                                                                          \
+    uint64_t year, uint64_t month, uint64_t day, uint64_t hour, uint64_t minute, uint64_t second,                \
+        uint64_t microsecond, int64_t k1, int64_t k2, int64_t k3, int64_t k4, int64_t k5, int64_t k6
+#define TIDE_ARRAYS                                                                                              \
+    const uint64_t f[7] = {year, month, day, hour, minute, second, microsecond};                                 \
+    const int64_t k[6] = {k1, k2, k3, k4, k5, k6}
+
+__attribute__((noinline)) static uint32_t tide_plain(TIDE_PARAMETERS, double *frequency, double *phase)
 {
+    TIDE_ARRAYS;
     struct instant tt;
     uint32_t refusal = utc_plain_to_tt(f, &tt);
 
@@ -135,8 +142,9 @@ __attribute__((noinline)) static uint32_t tide_plain(const uint64_t f[7], const 
     return refusal;
 }
 
-__attribute__((noinline)) static double tide_plain_phase(const uint64_t f[7], const int64_t k[6])
+__attribute__((noinline)) static double tide_plain_phase(TIDE_PARAMETERS)
 {
+    TIDE_ARRAYS;
     struct instant tt;
 
     return utc_plain_to_tt(f, &tt) || model_multipliers(k) ? 0.0 : model_phase(tt, utc_plain_micros(f), k);
