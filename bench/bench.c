@@ -33,8 +33,8 @@ static volatile double sink;
 typedef double work(int i);
 
 /* The thirteen numbers of input i that a phase is asked for with. */
-#define TIDE_OF(i)                                                                                              \
-    reading[i][0], reading[i][1], reading[i][2], reading[i][3], reading[i][4], reading[i][5], reading[i][6],    \
+#define TIDE_OF(i)                                                                                           \
+    reading[i][0], reading[i][1], reading[i][2], reading[i][3], reading[i][4], reading[i][5], reading[i][6], \
         multiplier[i][0], multiplier[i][1], multiplier[i][2], multiplier[i][3], multiplier[i][4], multiplier[i][5]
 
 static double constituent(int i)

@@ -120,11 +120,11 @@ static uint64_t utc_plain_micros(const uint64_t f[7])
  * Frequency and phase for a reading: accepted and turned to TT as above, the expressions as in the model. Each is a
  * call of its own, with the parameters that the library's has.
  */
-#define TIDE_PARAMETERS                                                                                          \
-    uint64_t year, uint64_t month, uint64_t day, uint64_t hour, uint64_t minute, uint64_t second,                \
+#define TIDE_PARAMETERS                                                                           \
+    uint64_t year, uint64_t month, uint64_t day, uint64_t hour, uint64_t minute, uint64_t second, \
         uint64_t microsecond, int64_t k1, int64_t k2, int64_t k3, int64_t k4, int64_t k5, int64_t k6
-#define TIDE_ARRAYS                                                                                              \
-    const uint64_t f[7] = {year, month, day, hour, minute, second, microsecond};                                 \
+#define TIDE_ARRAYS                                                              \
+    const uint64_t f[7] = {year, month, day, hour, minute, second, microsecond}; \
     const int64_t k[6] = {k1, k2, k3, k4, k5, k6}
 
 __attribute__((noinline)) static uint32_t tide_plain(TIDE_PARAMETERS, double *frequency, double *phase)
