@@ -1,4 +1,4 @@
--- The two cases that the head of TDFRPH gives, and one in second 60, computed from the definitions. Assumes nothing.
+-- The two cases that the head of TDFRPH gives, computed from the definitions. Assumes nothing.
 use lib.Dec.{T}
 use lib.Ieee as Ieee
 use lib.Ieee.{round, add, sub, mul, div, neg, rem, lt, eq, ofInt}

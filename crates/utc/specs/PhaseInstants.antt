@@ -13,10 +13,11 @@ pub record PhaseInstant : Type 0 where
   pub utc : Reading
   pub together : ttOf utc ≡ AtInstant tt
 
--- the answer at a reading's instant for phases, or the reading's refusal: by the instant that the reading has, or has not
+-- at a reading that has the instant, or the refusal, x: the answer at its instant for phases, or the refusal
 abbrev pub atAnswer : {A : Type 0} → (ℕ → A) → (PhaseInstant → A) → (r : Reading) (x : InstantAnswer) → ttOf r ≡ x → A
 atAnswer refuse answer r (AtInstant t) e = answer (record { tt = t; utc = r; together = e })
 atAnswer refuse answer r (NoInstant n) e = refuse n
 
+-- at any reading
 abbrev pub atPhase : {A : Type 0} → (ℕ → A) → (PhaseInstant → A) → Reading → A
 atPhase refuse answer r = atAnswer refuse answer r (ttOf r) refl
