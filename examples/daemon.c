@@ -91,7 +91,7 @@ static int show_instant(int64_t day, uint64_t micros)
 }
 
 /* A UTC reading f, and the phase of M2 then. */
-static int show_phase(const uint64_t f[7])
+static int show_utc_and_phase(const uint64_t f[7])
 {
     double frequency, phase;
 
@@ -158,7 +158,7 @@ static int serve_clock(int64_t day, uint64_t micros)
         return 1;
     if (refused(enfys_tt_to_utc(day, micros, &f[0], &f[1], &f[2], &f[3], &f[4], &f[5], &f[6])))
         printf("  no UTC, and no phase\n");
-    else if (show_phase(f) != 0)
+    else if (show_utc_and_phase(f) != 0)
         return 1;
     return serve(day, micros);
 }
@@ -206,7 +206,7 @@ static int serve_typed(const char *text)
     }
     if (refused(enfys_utc_to_tt(f[0], f[1], f[2], f[3], f[4], f[5], f[6], &day, &micros)))
         return 0;
-    if (show_instant(day, micros) != 0 || show_phase(f) != 0)
+    if (show_instant(day, micros) != 0 || show_utc_and_phase(f) != 0)
         return 1;
     return serve(day, micros);
 }

@@ -48,8 +48,9 @@
  *            it by 32.184 s and the whole seconds of TAI - UTC, which leap seconds
  *            change.
  *   reading  a date and a time of day in UTC: year, month, day of the month, hour,
- *            minute, second, and microsecond of the second. The calls of (d) and
- *            enfys_utc_to_tt take one; the time that any other call takes is TT.
+ *            minute, second, and microsecond of the second. The calls of (d),
+ *            enfys_utc_to_tt and enfys_utc_to_tt_* take one; the time that any
+ *            other call takes is TT.
  *
  * This software is derived from routines of the IERS Conventions. It is not IERS
  * Conventions software, and is neither distributed nor endorsed by the IERS
@@ -80,9 +81,10 @@ extern "C" {
  *         refusal = enfys_tide(year, month, day_of_month, hour, minute, second,
  *                              microsecond, 2, 0, 0, 0, 0, 0, &frequency, &phase);
  *
- * A call with the earlier parameters does not compile. An object file that was
- * compiled with an earlier header has to be compiled anew. It still links, but a
- * day number that was accepted is now taken for a year, and refused by 1.
+ * There are phases from 1972-01-01 to 2025-06-27 only, where 1.2.0 answered any
+ * instant from 1900 to 2100. A call with the earlier parameters does not compile. An
+ * object file that was compiled with an earlier header still links, but must not be
+ * used, since its arguments would be taken for others: compile it anew.
  */
 #define ENFYS_VERSION_MAJOR 2
 #define ENFYS_VERSION_MINOR 0

@@ -115,8 +115,8 @@ static void close_calls(void)
 }
 
 /*
- * The refusals in their order: 1 to 7, 19, 20, 11. Each set of wrong fields, in three years of which the library has
- * one, with and without a wrong multiplier; the first that applies has to be given.
+ * The refusals in their order: 1 to 7, 19, 20, 11. Each set of wrong fields, in a year that has UTC here, in one before
+ * and in one after, with and without a wrong multiplier; the first that applies has to be given.
  */
 static void orders(void)
 {

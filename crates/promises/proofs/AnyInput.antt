@@ -1,5 +1,5 @@
--- Demand 1 holds. Each service's definition is the first of its own cases that applies, and its cases compute to those that are written out in
--- specs/AnyInput.antt, in their order; since no case has the number 0, the refusal number tells an answer from a refusal. Assumes nothing.
+-- Demand 1 holds. Each service's definition is the first of its own cases that applies (a phase's by `in-full`), and its cases compute to those that are
+-- written out in specs/AnyInput.antt, in their order; since no case has the number 0, the refusal number tells an answer from a refusal. Assumes nothing.
 use mathlib.Core.Path.{_≡_, refl, sym, _∙_, ap, subst}
 use Prim.Native.Nat.{ℕ}
 use mathlib.Core.List.{List, _++_}

@@ -11,15 +11,14 @@ use Rattle.instants.specs.declared.Instant.{Instant}
 use Rattle.calendar.specs.Dates.{leapYear, monthLengths, monthLength, sum, yearLength, daysOfYears, daysBefore, dateIndex}
 use Rattle.calendar.specs.declared.InstantAnswer.the-variants.{AtInstant}
 use Rattle.utc.specs.Table.{firstStep, laterSteps, begun, taiMinusUtc, isEve, hasSecond60}
-use Rattle.utc.specs.Readings.{reading, readingIndex, readingMicros, AcceptedReading}
-use Rattle.utc.specs.Conversions.{ttAt, ttOf, dayBegins, utcOf}
-use Rattle.utc.specs.PhaseInstants.{PhaseInstant}
+use Rattle.utc.specs.Readings.{reading, readingMicros, AcceptedReading}
+use Rattle.utc.specs.Conversions.{ttOf, dayBegins, utcOf}
 use Rattle.utc.specs.declared.Reading.{Reading}
 use Rattle.utc.specs.declared.ReadingAnswer.the-variants.{NoReading}
 use Rattle.utc.proofs.Steps.{table-rule}
 use Rattle.utc.proofs.Inverse.{reading-there-and-back, instant-there-and-back}
 use Rattle.utc.proofs.Unique.{accepted-answered, answered-accepted, tt-accepted, one-reading, refused-unread, unread-refused}
-use Rattle.utc.proofs.PhaseInstants.{parts-accepted, accepted-phase, sixty-past-the-day}
+use Rattle.utc.proofs.PhaseInstants.{parts-accepted, phaseInstantOf, accepted-phase, sixty-past-the-day}
 use Rattle.utc.proofs.Following.{next-second}
 use Rattle.utc.proofs.Eves.{sixty-only, sixty-there}
 use Rattle.clock.proofs.Words.{split-accepted, split-then-join, JoinedExactly, joined-exactly}
@@ -61,9 +60,7 @@ corrected : (r : Reading) (t : Instant) (k : Doodson) → ttOf r ≡ AtInstant t
 corrected r t k e = at-instant (record { tt = t; utc = r; together = e }) k
 
 past-the-day : (r : Reading) → AcceptedReading r → 59 < r .second → (readingMicros r ≡ 86_400_000_000 + r .microsecond) × T (le (whole (pos 1)) (dayFraction (readingMicros r)))
-past-the-day r a h =
-    let p : PhaseInstant = record { tt = ttAt (readingIndex r) (readingMicros r); utc = r; together = accepted-answered r a } in
-    (sixty-past-the-day p h, fraction-from-one p h)
+past-the-day r a h = let p = phaseInstantOf r a in (sixty-past-the-day p h, fraction-from-one p h)
 
 -- PROMISE. Demand 2: exactness.
 pub exactness : Exactness
@@ -76,7 +73,7 @@ exactness = record {
   split-and-joined = λ d m a. (split-accepted d m a, split-then-join d m a);
   joined-exactly = λ d e k m a b n. let j : JoinedExactly d e m = joined-exactly d e k m a b n in (j .same, j .other);
   parts-belong-together = parts-accepted;
-  every-reading-has-phases = accepted-phase;
+  accepted-reading-has-phases = accepted-phase;
   corrected-expression = corrected;
   second-60-past-the-day = past-the-day;
   published-phases = published;

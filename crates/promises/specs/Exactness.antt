@@ -62,7 +62,7 @@ pub record Exactness : Type 0 where
       → (d ≡ e → joinOf d (timeWord e m) ≡ Joined (instant e m)) × ((d ≡ e → ⊥) → joinOf d (timeWord e m) ≡ NoJoin 10)
   -- (d) an instant for phases has an accepted reading, whose instant is its TT part and accepted, and every accepted reading has one
   pub parts-belong-together : (p : PhaseInstant) → AcceptedReading (p .utc) × (ttOf (p .utc) ≡ AtInstant (p .tt)) × IsAccepted (p .tt .day) (p .tt .micros)
-  pub every-reading-has-phases : (r : Reading) → AcceptedReading r → (p : PhaseInstant) × (p .utc ≡ r)
+  pub accepted-reading-has-phases : (r : Reading) → AcceptedReading r → (p : PhaseInstant) × (p .utc ≡ r)
   -- frequency and phase are the expression in its order: the fraction of 360 f is the reading's, and the centuries are those of its instant
   pub corrected-expression : (r : Reading) (t : Instant) (k : Doodson) → ttOf r ≡ AtInstant t → T (allInRange k)
       → tideOf r k ≡ tideCase.Tide (constituentOf (argumentsOf (dayFraction (readingMicros r)) (centuries (t .day) (dayFraction (t .micros)))) k)

@@ -24,8 +24,7 @@ use Rattle.utc.specs.Readings.{readingIndex, readingMicros, readingCases, Accep
 use Rattle.utc.specs.Conversions.{ttAt}
 use Rattle.utc.specs.PhaseInstants.{PhaseInstant}
 use Rattle.utc.specs.declared.Reading.{Reading}
-use Rattle.utc.proofs.Unique.{accepted-answered}
-use Rattle.utc.proofs.PhaseInstants.{at-both, in-cases, tt-of-phase, tt-is, utc-less, sixty-past-the-day}
+use Rattle.utc.proofs.PhaseInstants.{at-both, in-cases, tt-of-phase, phaseInstantOf, tt-is, utc-less, sixty-past-the-day}
 use Rattle.tide.specs.declared.Doodson.{Doodson}
 use Rattle.tide.specs.declared.TideAnswer.{TideAnswer}
 use Rattle.tide.specs.declared.TideAnswer.the-variants.{Tide, NoTide}
@@ -94,7 +93,7 @@ pub zeros-give-zero : (r : Reading) → AcceptedReading r
     → tideOf r (doodson (pos 0) (pos 0) (pos 0) (pos 0) (pos 0) (pos 0)) ≡ Tide (record { frequency = zero64; phase = zero64 })
 unfolding allInRange constituentOf argumentsAt
 zeros-give-zero r h =
-    let p : PhaseInstant = record { tt = ttAt (readingIndex r) (readingMicros r); utc = r; together = accepted-answered r h } in
+    let p = phaseInstantOf r h in
     let b = bounds-at p in
     at-instant p (doodson (pos 0) (pos 0) (pos 0) (pos 0) (pos 0) (pos 0)) tt
     ∙ rw (zero-sum (b .dd1) (b .dd2) (b .dd3) (b .dd4) (b .dd5) (b .dd6), zero-sum (b .d1) (b .d2) (b .d3) (b .d4) (b .d5) (b .d6), zero-reduced) refl

@@ -1,4 +1,4 @@
--- The words of the promises on a frequency and a phase (proofs/Promises.antt).
+-- The words of the promises on a frequency and a phase (proofs/Promises.antt, Published.antt).
 use Prim.Native.Nat.{ℕ, _+_, _*_, _<_}
 use mathlib.Core.Path.{_≡_}
 use mathlib.Core.Bool.{Bool, false, not, _&&_}

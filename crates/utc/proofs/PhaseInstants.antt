@@ -59,9 +59,13 @@ in-cases {A} refuse answer r a h = by (ttOf r) refl
 pub parts-accepted : (p : PhaseInstant) → AcceptedReading (p .utc) × (ttOf (p .utc) ≡ AtInstant (p .tt)) × IsAccepted (p .tt .day) (p .tt .micros)
 parts-accepted p = (answered-accepted (p .utc) (p .tt) (p .together), p .together, tt-accepted (p .utc) (p .tt) (p .together))
 
+-- that of an accepted reading
+abbrev pub phaseInstantOf : (r : Reading) → AcceptedReading r → PhaseInstant
+phaseInstantOf r h = record { tt = ttAt (readingIndex r) (readingMicros r); utc = r; together = accepted-answered r h }
+
 -- PROMISE. Every accepted reading has an instant for phases.
 pub accepted-phase : (r : Reading) → AcceptedReading r → (p : PhaseInstant) × (p .utc ≡ r)
-accepted-phase r h = (record { tt = ttAt (readingIndex r) (readingMicros r); utc = r; together = accepted-answered r h }, refl)
+accepted-phase r h = (phaseInstantOf r h, refl)
 
 -- the TT part, from the reading
 pub tt-is : (p : PhaseInstant) → p .tt ≡ ttAt (readingIndex (p .utc)) (readingMicros (p .utc))
@@ -75,7 +79,7 @@ utc-less p = held-less (p .utc) (answered-held (p .utc) (p .tt) (p .together) .0
 pub sixty-past-the-day : (p : PhaseInstant) → 59 < p .utc .second → readingMicros (p .utc) ≡ dayMicros + p .utc .microsecond
 sixty-past-the-day p = sixty-micros (p .utc) (answered-held (p .utc) (p .tt) (p .together) .0)
 
--- the same of parts that belong together
+-- what holds of the parts of an instant for phases, said of parts that belong together
 pub together-accepted : (x : PhaseParts) → Together x → IsAccepted (x .tt .day) (x .tt .micros) × (x .utc .micros < dayMicros + secondMicros)
 together-accepted x t = rw (t .are) (parts-accepted (t .at) .2, utc-less (t .at))
 

@@ -13,11 +13,11 @@ pub record PhaseInstant : Type 0 where
   pub utc : Reading
   pub together : ttOf utc ≡ AtInstant tt
 
--- at a reading that has the instant, or the refusal, x: the answer at its instant for phases, or the refusal
+-- by the answer x of the conversion: what is made of the instant for phases, or of the refusal
 abbrev pub atAnswer : {A : Type 0} → (ℕ → A) → (PhaseInstant → A) → (r : Reading) (x : InstantAnswer) → ttOf r ≡ x → A
 atAnswer refuse answer r (AtInstant t) e = answer (record { tt = t; utc = r; together = e })
 atAnswer refuse answer r (NoInstant n) e = refuse n
 
--- at any reading
+-- what is made of a reading's own instant for phases, or of its refusal
 abbrev pub atPhase : {A : Type 0} → (ℕ → A) → (PhaseInstant → A) → Reading → A
 atPhase refuse answer r = atAnswer refuse answer r (ttOf r) refl
