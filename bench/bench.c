@@ -19,6 +19,7 @@
 #define PASSES 10
 #define ROUNDS 100
 #define STEP 900000000
+#define LOG_DAYS 4096
 
 static struct instant at[INPUTS], utc_at[INPUTS]; /* the second has those of the readings */
 static uint64_t reading[INPUTS][7];
@@ -115,13 +116,53 @@ static double year(int i)
 }
 
 #ifdef WITH_ERFA
-static double date_erfa(int i)
+static uint32_t erfa_date_of_day(int64_t day, uint64_t *year, uint64_t *month, uint64_t *day_of_month)
 {
-    int year = 0, month = 0, day = 0;
+    int y = 0, m = 0, d = 0, status;
     double fraction = 0.0;
 
-    eraJd2cal(2400000.5, (double)at[i].day, &year, &month, &day, &fraction);
+    status = eraJd2cal(2400000.5, (double)day, &y, &m, &d, &fraction);
+    *year = (uint64_t)y, *month = (uint64_t)m, *day_of_month = (uint64_t)d;
+    return (uint32_t)status;
+}
+
+static double date_erfa(int i)
+{
+    uint64_t year = 0, month = 0, day = 0;
+
+    erfa_date_of_day(at[i].day, &year, &month, &day);
     return (double)(year + month + day);
+}
+#endif
+
+/*
+ * A log view: LOG_DAYS days in a row, by a call for each that gives the whole date. All of them are accepted, and the
+ * refusals are looked at all the same, as a caller does.
+ */
+#define LOG_VIEW(call)                                                               \
+    uint64_t year = 0, month = 0, day_of_month = 0, sum = 0;                         \
+    const int64_t first = FIRST_DAY + at[i].day % (LAST_DAY - FIRST_DAY - LOG_DAYS); \
+                                                                                     \
+    for (int64_t day = first; day < first + LOG_DAYS; day++) {                       \
+        sum += call(day, &year, &month, &day_of_month);                              \
+        sum += year + month + day_of_month;                                          \
+    }                                                                                \
+    return (double)sum
+
+static double log_view(int i)
+{
+    LOG_VIEW(enfys_date_of_day);
+}
+
+static double log_view_plain(int i)
+{
+    LOG_VIEW(date_plain_of_day);
+}
+
+#ifdef WITH_ERFA
+static double log_view_erfa(int i)
+{
+    LOG_VIEW(erfa_date_of_day);
 }
 #endif
 
@@ -270,9 +311,11 @@ static struct row {
     {"three corrections", corrections, corrections_plain, 0.45, 0, 0},
     {"both offsets and the uncertainty, against two", offsets, offsets_plain, 1.9, 0, 0},
     {"day to date", date, date_plain, 1.1, 0, 0},
+    {"4096 days in a row to dates", log_view, log_view_plain, 1.2, 0, 0},
     {"record read", read_back, read_back_plain, 0.8, 0, 0},
 #ifdef WITH_ERFA
     {"day to date, against ERFA's eraJd2cal", date, date_erfa, 0.6, 0, 0},
+    {"4096 days in a row, against eraJd2cal", log_view, log_view_erfa, 0, 0, 0},
     {"UTC to TT, against ERFA", utc_to_tt, utc_to_tt_erfa, 0.12, 0, 0},
     {"TT to UTC, against ERFA", tt_to_utc, tt_to_utc_erfa, 0.06, 0, 0},
 #endif
@@ -341,11 +384,22 @@ static int same_utc(struct instant tt)
            (f[0] == 0 || (utc_plain_to_tt(f, &x) == 0 && x.day == tt.day && x.micros == tt.micros));
 }
 
-/* Whether what is timed answers right: at the inputs, and for UTC around the steps as well. */
+/* Whether plain.h and the library have the same date of a day, or refuse it both. */
+static int same_date(int64_t day)
+{
+    uint64_t f[3] = {0}, g[3] = {0};
+
+    return enfys_date_of_day(day, f, f + 1, f + 2) == date_plain_of_day(day, g, g + 1, g + 2) &&
+           memcmp(f, g, sizeof f) == 0;
+}
+
+/* Whether what is timed answers right: at the inputs, for dates on every day, and for UTC around the steps as well. */
 static int right(void)
 {
     int wrong = 0;
 
+    for (int64_t day = FIRST_DAY - 1000; day <= LAST_DAY + 1000; day++)
+        wrong += !same_date(day);
     for (int i = 0; i < INPUTS; i++) {
         struct date x = date_plain_of(at[i].day), y;
 

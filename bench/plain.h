@@ -20,6 +20,19 @@ static struct date date_plain_of(int64_t day)
     return (struct date){era * 400 + year_of_era + (month <= 2), month, of_year - (153 * month_from_march + 2) / 5 + 1};
 }
 
+/* The same in one call of its own, with the parameters and the refusal that the library's has. */
+__attribute__((noinline, flatten)) static uint32_t date_plain_of_day(int64_t day, uint64_t *year, uint64_t *month,
+                                                                     uint64_t *day_of_month)
+{
+    struct date x;
+
+    if (day < FIRST_DAY || day > LAST_DAY)
+        return 8;
+    x = date_plain_of(day);
+    *year = x.year, *month = x.month, *day_of_month = x.day;
+    return 0;
+}
+
 /* The day number of a date, in the same way. */
 static int64_t day_plain_of(uint64_t year, uint64_t month, uint64_t day)
 {
