@@ -47,7 +47,7 @@ uint32_t model_date_of_day(int64_t day, struct date *date)
     if (day < FIRST_DAY || day > MISTAKE(3, LAST_DAY, LAST_DAY + 1))
         return 8;
     count_days();
-    *date = date_at[day - FIRST_DAY];
+    *date = date_at[day - FIRST_DAY + MISTAKE(9, 0, day == 51909 /* the last of four centuries runs over */)];
     return 0;
 }
 
