@@ -88,8 +88,8 @@ extern "C" {
  */
 #define ENFYS_VERSION_MAJOR 2
 #define ENFYS_VERSION_MINOR 0
-#define ENFYS_VERSION_PATCH 0
-#define ENFYS_VERSION_STRING "2.0.0"
+#define ENFYS_VERSION_PATCH 1
+#define ENFYS_VERSION_STRING "2.0.1"
 
 /*
  * Refusal numbers. 0 is success. Where several apply, the first in the order
@@ -145,7 +145,10 @@ enum {
 uint32_t enfys_day_of_date(uint64_t year, uint64_t month, uint64_t day_of_month,
                            int64_t *day);
 
-/* The date of a day number. Refused: 8. */
+/*
+ * The date of a day number. Refused: 8. It is found by arithmetic without a loop, so
+ * that thousands of days can be asked for in a row, by this call for each.
+ */
 uint32_t enfys_date_of_day(int64_t day, uint64_t *year, uint64_t *month,
                            uint64_t *day_of_month);
 
