@@ -312,19 +312,15 @@ def main():
     root = Path(roots[0]) if roots else Path(__file__).resolve().parent.parent
     try:
         reached, wrong = check(root)
+        count, missed = self_test(root, reached) if "--self-test" in sys.argv else (0, [])
     except Unread as error:
         sys.exit(f"direct: {error}")
-    for words in wrong:
+    for words in wrong + [f"not answered right: {what}" for what in missed]:
         print(f"direct: {words}")
     if not wrong:
         print(f"direct: {len(STARTS)} day-to-date functions and the {len(reached) - len(STARTS)} that they reach, no loop and no recursion")
-    missed = []
-    if "--self-test" in sys.argv:
-        count, missed = self_test(root, reached)
-        for words in missed:
-            print(f"direct: not answered right: {words}")
-        if not missed:
-            print(f"direct: {count} planted changes, each answered right")
+    if count and not missed:
+        print(f"direct: {count} planted changes, each answered right")
     sys.exit(1 if wrong or missed else 0)
 
 
