@@ -7,15 +7,18 @@
 
 #include "../tests/model.h"
 
-/* The year, month and day of a day number by whole-number arithmetic on years that start in March. */
+/*
+ * The year, month and day of a day number by whole-number arithmetic on years that start in March. 32 bits are enough
+ * for every accepted day.
+ */
 static struct date date_plain_of(int64_t day)
 {
-    uint64_t z = (uint64_t)(day + 678881);
-    uint64_t era = z / 146097, of_era = z % 146097;
-    uint64_t year_of_era = (of_era - of_era / 1460 + of_era / 36524 - of_era / 146096) / 365;
-    uint64_t of_year = of_era - (365 * year_of_era + year_of_era / 4 - year_of_era / 100);
-    uint64_t month_from_march = (5 * of_year + 2) / 153;
-    uint64_t month = month_from_march < 10 ? month_from_march + 3 : month_from_march - 9;
+    uint32_t z = (uint32_t)(day + 678881);
+    uint32_t era = z / 146097, of_era = z % 146097;
+    uint32_t year_of_era = (of_era - of_era / 1460 + of_era / 36524 - of_era / 146096) / 365;
+    uint32_t of_year = of_era - (365 * year_of_era + year_of_era / 4 - year_of_era / 100);
+    uint32_t month_from_march = (5 * of_year + 2) / 153;
+    uint32_t month = month_from_march < 10 ? month_from_march + 3 : month_from_march - 9;
 
     return (struct date){era * 400 + year_of_era + (month <= 2), month, of_year - (153 * month_from_march + 2) / 5 + 1};
 }

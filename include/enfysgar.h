@@ -146,8 +146,9 @@ uint32_t enfys_day_of_date(uint64_t year, uint64_t month, uint64_t day_of_month,
                            int64_t *day);
 
 /*
- * The date of a day number. Refused: 8. It is found by arithmetic without a loop, so
- * that thousands of days can be asked for in a row, by this call for each.
+ * The date of a day number. Refused: 8. It is found by arithmetic, with no loop. For
+ * many days make this call once for each: the calls for one number begin again from
+ * the day each time.
  */
 uint32_t enfys_date_of_day(int64_t day, uint64_t *year, uint64_t *month,
                            uint64_t *day_of_month);

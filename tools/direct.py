@@ -1,11 +1,14 @@
 #!/usr/bin/env python3
-"""From a day number to a date there is no loop and no recursion.
+"""No loop and no recursion on the way from a day number to its date.
 
-    tools/direct.py [ROOT] [--self-test]
+    tools/direct.py [ROOT] [--self-test]                reads crates/*/src
+    rt mir enfysgar | tools/direct.py - [--self-test]   reads what the compiler makes of them
 
-Starts from the functions whose contract cites a date's definition by day (DEFINITIONS), which have to be those of STARTS, and follows every call through
-crates/*/src. A loop, a function that reaches itself, and a call that leads to no function of ours are printed with the way to them, and the status is 1.
-With --self-test loops and recursions are then planted one by one in a copy, and each must be noticed; and so are changes that are neither, which must not be."""
+Starts from the functions that take a day to its date (STARTS) and follows every call. A loop, a function that reaches itself, and a call that leads to no function of ours
+are printed with the way to them, and the status is 1. In the source the functions to start from have to be those whose contract cites a definition of DEFINITIONS. The
+source is read by the few forms of the language that we use; where it has another (an import of everything, a path that has two meanings), that is printed too.
+
+With --self-test loops, recursions and other changes are planted in a copy, one by one, and each has to be answered as it should be."""
 
 import re
 import sys
@@ -18,10 +21,12 @@ STARTS = {"calendar::date_after", "calendar::date_of"} | {f"enfysgar::calendar_c
 
 LOOPS = {"while", "loop", "for"}
 NO_CALLS = LOOPS | {"if", "else", "match", "return", "break", "let", "in", "as", "mut", "ref"}  # words that may stand before a parenthesis
-NUMBERS = {f"{kind}{bits}" for kind in "ui" for bits in (8, 16, 32, 64, "size")} | {"f32", "f64", "bool"}  # their functions are instructions
+# the language's own functions, and its one method
+BUILT_IN = {f"{kind}{bits}::{f}" for kind in "ui" for bits in (8, 16, 32, 64, "size") for f in ("count_ones", "leading_zeros", "trailing_zeros")}
+BUILT_IN |= {f"f{bits}::{f}" for bits in (32, 64) for f in ("to_bits", "from_bits")} | {".len"}
 TOKEN = re.compile(
     r"""(?P<left_out>\s+|//[^\n]*|/\*.*?\*/)
-    |b?"(?:\\.|[^"\\])*"|b'(?:\\.|[^'\\])+'|'[^\W\d]\w*  # bytes, and labels
+    |b?r(?P<marks>\#*)".*?"(?P=marks)|b?"(?:\\.|[^"\\])*"|b'(?:\\.|[^'\\])+'|'[^\W\d]\w*  # bytes, and labels
     |(?P<name>[^\W\d]\w*)|::|\d\w*|.""",
     re.X | re.S,
 )
@@ -29,7 +34,7 @@ CLOSES = {"(": ")", "[": "]", "{": "}"}
 
 
 class Unread(Exception):
-    """What stands at a place of a source file and is not understood."""
+    """A form of the language that is not read here."""
 
 
 class File:
@@ -37,7 +42,10 @@ class File:
 
     def __init__(self, root, path):
         self.path, self.text, self.shown = path, path.read_text(encoding="utf-8"), path.relative_to(root).as_posix()
-        found = [t for t in TOKEN.finditer(self.text) if t.lastgroup != "left_out"]
+        found = list(TOKEN.finditer(self.text))
+        if any(t.group().startswith("/*") and "/*" in t.group()[2:] for t in found):
+            raise Unread(f"{self.shown}: a comment in a comment")
+        found = [t for t in found if t.lastgroup != "left_out"]
         self.words = [t.group() for t in found] + [""]
         self.names = [t.lastgroup == "name" for t in found] + [False]
         self.starts = [t.start() for t in found] + [len(self.text)]
@@ -77,6 +85,7 @@ class Program:
     def __init__(self, root):
         self.root = root
         self.functions, self.methods, self.of_types = {}, {}, []
+        self.values = set()  # what is written like a call and makes a struct or an enum
         self.meaning = {}  # by module or type: name -> path, or for an import the list of names that it is written as
         self.crates = re.findall(r"^(\w+):", (root / "crates.txt").read_text(encoding="utf-8"), re.M)
         for crate in self.crates:
@@ -84,14 +93,18 @@ class Program:
                 if (root / "crates" / crate / "src" / name).exists():
                     self.module((crate,), root / "crates" / crate / "src" / name)
         for file, at, path, group in self.of_types:  # when all names are known
-            self.items(file, at, group + 1, file.other[group], self.find(at, path) or at + (path[-1],))
+            of_type = self.find(at, path)
+            if of_type is None:
+                raise Unread(f"{file.where(group)}: {'::'.join(path)} is no type of ours")
+            self.items(file, at, group + 1, file.other[group], of_type)
 
     def module(self, at, path):
         file = File(self.root, path)
         self.items(file, at, 0, len(file.words) - 1)
 
-    def name(self, at, name, meaning):
-        self.meaning.setdefault(at, {})[name] = meaning
+    def name(self, file, at, name, meaning):
+        if self.meaning.setdefault(at, {}).setdefault(name, meaning) != meaning or at + (name,) in self.functions:
+            raise Unread(f"{file.shown}: {name} has two meanings")
 
     def items(self, file, at, place, end, of_type=None):
         """The items of a module, or the functions of a type."""
@@ -100,12 +113,12 @@ class Program:
             word, after = words[place], words[place + 1]
             if word == "#" or (word == "pub" and after == "("):
                 place = file.other[place + 1]
-            elif word in ("ghost", "type", "const"):
+            elif word in ("ghost", "type") or (word == "const" and after != "fn"):
                 place = file.to(place, [";"])
             elif word == "use":
                 place = self.imports(file, at, place + 1, [])
             elif word == "mod":
-                self.name(at, after, at + (after,))
+                self.name(file, at, after, at + (after,))
                 if words[place + 2] == "{":
                     self.items(file, at + (after,), place + 3, file.other[place + 2])
                 else:
@@ -114,49 +127,54 @@ class Program:
                     self.module(at + (after,), next((o for o in options if o.exists()), options[0]))
                 place = file.to(place, [";", "{"])
                 place = file.other.get(place, place)
-            elif word == "impl":
+            elif word == "impl" and after != "<":
                 group = file.to(place, ["{"])
                 self.of_types.append((file, at, words[place + 1 : group : 2], group))
                 place = file.other[group]
             elif word in ("struct", "enum"):
-                self.name(at, after, at + (after,))
+                self.name(file, at, after, at + (after,))
+                if words[place + 2] == "(":
+                    self.values.add(at + (after,))
                 place = file.to(place, [";", "{"])
                 last = file.other.get(place, place)
                 while word == "enum" and place < last - 1:
                     if words[place] in ("{", ","):
-                        self.name(at + (after,), words[place + 1], at + (after, words[place + 1]))
+                        self.name(file, at + (after,), words[place + 1], at + (after, words[place + 1]))
+                        self.values.add(at + (after, words[place + 1]))
                     place = file.other.get(place + 1, place + 1)
                 place = last
             elif word == "fn":
                 place = self.function(file, at, place + 1, of_type)
-            elif word not in ("pub", "extern", '"C"'):
-                raise Unread(f"{file.where(place)}: {word} is not understood")
+            elif word not in ("pub", "const", "extern", '"C"'):
+                raise Unread(f"{file.where(place)}: {word} is not read here")
             place += 1
 
     def imports(self, file, at, place, path):
         """An import, or one of a group; the place where it ends."""
-        words = file.words
+        words, outer = file.words, path
         while words[place] not in ("}", ",", ";"):
             if words[place] == "{":
                 end = file.other[place]
                 while place < end:
                     place = self.imports(file, at, place + 1, path)
-                place = end
-            elif words[place] == "as":
-                self.name(at, words[place + 1], path)
+                return place + 1
+            if words[place] == "*":
+                raise Unread(f"{file.where(place)}: an import of everything")
+            if words[place] == "as":
+                self.name(file, at, words[place + 1], path)
                 return place + 2
-            elif words[place] != "::":
+            if words[place] != "::":
                 path = path + [words[place]]
             place += 1
-        if path and words[place - 1] != "}":
-            self.name(at, path[-1], path)
+        if path != outer:
+            self.name(file, at, path[-1], path)
         return place
 
     def function(self, file, at, place, of_type):
         """A function: what stands before its body is its parameters and its contract. The place where it ends."""
         name, contract, start = file.words[place], set(), file.starts[place]
         key = (of_type or at) + (name,)
-        self.name(of_type or at, name, key)
+        self.name(file, of_type or at, name, key)
         place = file.to(place, ["{"])
         while {"requires", "ensures", "ghost"} & set(file.words[place - 2 : place]):
             contract.update(file.words[place : file.other[place]])
@@ -186,73 +204,106 @@ class Program:
             meaning = self.meaning.get(at, {}).get(name)
             if isinstance(meaning, list):
                 first, *rest = meaning
-                meaning = self.follow((first,), rest) if first in self.crates else self.find(at, meaning) if first != name else None
+                meaning = self.find(at, meaning) if first != name else self.follow((first,), rest) if first in self.crates else None
             if meaning is None:
                 return None
             at = meaning
         return at
 
     def calls(self, function):
-        """For each call of a body its place, its words, and the paths of what it may call: functions, or a value of a struct or an enum that is made."""
+        """For each call of a body its place, its words, and the paths of the functions that it may call; None where it is not followed."""
         words, names = function.file.words, function.file.names
         for place in function.body:
             word, after = words[place], words[place + 1]
-            if word == "fn" or (word in (")", "]") and after == "(") or (names[place] and after == "!" and words[place + 2] in CLOSES):
-                yield place, word + after, []  # none of these is in the language
-            if not names[place] or after != "(" or word in NO_CALLS:
+            is_name = names[place] and word not in NO_CALLS
+            if word == "fn" or (word in (")", "]") and after == "(") or (word == "::" and after == "<") or (is_name and after == "!" and words[place + 2] in CLOSES):
+                yield place, word + after, None
+            if not is_name or after != "(":
                 continue
             first = place
             while words[first - 1] == "::":
                 first -= 2
             path = words[first : place + 1 : 2]
             if words[first - 1] == ".":
-                found = self.methods.get(word, [])
-                if found or word != "len":
-                    yield place, f".{word}", found
-            elif path[0] not in NUMBERS:
-                found = self.find(function.module, path, function.of_type)
-                yield place, "::".join(path), [] if found is None else [found]
+                shown, found = "." + word, self.methods.get(word)
+            else:
+                key = self.find(function.module, path, function.of_type)
+                shown, found = "::".join(path), [key] if key in self.functions else [] if key in self.values else None
+            if shown in BUILT_IN and path[0] not in self.meaning.get(function.module, {}):
+                found = found or []
+            yield place, shown, found
+
+    def get(self, name):
+        """The loops and the calls of a function, each with its place; None if there is no such function."""
+        function = self.functions.get(tuple(name.split("::")))
+        if function is None:
+            return None
+        file = function.file
+        loops = [(file.where(p), file.words[p]) for p in function.body if file.words[p] in LOOPS]
+        return loops, [(file.where(p), words, found and ["::".join(k) for k in found]) for p, words, found in self.calls(function)]
 
     def starts(self):
-        return {"::".join(key): key for key, function in self.functions.items() if DEFINITIONS & function.contract}
+        return {"::".join(key) for key, function in self.functions.items() if DEFINITIONS & function.contract}
 
 
-def check(root):
-    """The functions that are reached from the day-to-date functions, and what is wrong."""
-    program = Program(root)
-    starts, wrong, reached = program.starts(), [], {}
-    wrong += [f"{name}: no such function, or its contract cites none of {', '.join(sorted(DEFINITIONS))}" for name in sorted(STARTS - set(starts))]
-    wrong += [f"{name}: goes from a day to a date by its contract, and is not in STARTS of tools/direct.py" for name in sorted(set(starts) - STARTS)]
+def compiled(text):
+    """The same of each function of a program as `rt mir` prints it."""
+    for part in text.split('(fn-def "')[1:]:
+        calls = re.findall(r'\(call \(direct \(fnRef "([^"]+)"', part)
+        others = [("compiled", "call", None)] * (part.count("(call ") - len(calls))
+        yield part[: part.index('"')], ([("compiled", "loop")] * part.count("(loop "), [("compiled", name, [name]) for name in calls] + others)
 
-    def visit(key, way):
-        function = program.functions[key]
-        reached[key] = function
-        way = way + ["::".join(key)]
-        by = " > ".join(way)
-        wrong.extend(f"{function.file.where(p)}: a loop, `{function.file.words[p]}`: {by}" for p in function.body if function.file.words[p] in LOOPS)
-        for place, words, found in program.calls(function):
-            if not found:
-                wrong.append(f"{function.file.where(place)}: `{words}` is no function of ours: {by}")
-            for callee in found:
-                if "::".join(callee) in way:
-                    wrong.append(f"{function.file.where(place)}: a recursion: {by} > {'::'.join(callee)}")
-                elif callee in program.functions and callee not in reached:
+
+def walk(functions, starts):
+    """The functions that are reached from some, and what is wrong with them."""
+    reached, wrong = [], []
+
+    def visit(name, way):
+        reached.append(name)
+        way = [*way, name]
+        loops, calls = functions.get(name)
+        wrong.extend(f"{where}: a loop, `{word}`: {' > '.join(way)}" for where, word in loops)
+        for where, words, found in calls:
+            for callee in [None] if found is None else found:
+                if callee is None or functions.get(callee) is None:
+                    wrong.append(f"{where}: `{words}` is no function of ours: {' > '.join(way)}")
+                elif callee in way:
+                    wrong.append(f"{where}: a recursion: {' > '.join([*way, callee])}")
+                elif callee not in reached:
                     visit(callee, way)
 
     for name in sorted(starts):
-        if starts[name] not in reached:
-            visit(starts[name], [])
+        if name not in reached:
+            visit(name, [])
     return reached, wrong
 
 
+def check_source(root):
+    try:
+        program = Program(root)
+    except Unread as form:
+        return [], [str(form)]
+    starts = program.starts()
+    wrong = [f"{name}: no such function, or its contract cites none of {', '.join(sorted(DEFINITIONS))}" for name in sorted(STARTS - starts)]
+    wrong += [f"{name}: its contract cites {' or '.join(sorted(DEFINITIONS))}, and it is not in STARTS of tools/direct.py" for name in sorted(starts - STARTS)]
+    reached, more = walk(program, starts)
+    return reached, wrong + more
+
+
+def check_compiled(text):
+    functions = dict(compiled(text))
+    reached, wrong = walk(functions, STARTS & set(functions))
+    return reached, wrong + [f"{name}: no such function" for name in sorted(STARTS - set(functions))]
+
+
 COUNTED = "pub fn counted(n: u64) -> u64 { let mut k = n; while 365 < k { k = k - 365; } k }"
-COUNTED_OF_TYPE = "impl YearDay { fn counted(self) -> u64 { loop {} } }"
-UNLISTED = "pub fn year_of(day: i64) -> u64 ensures { λ r. ⌜ r ≡ yearOf (dateOf day) ⌝ } { 0 }"
-NEITHER = '// while true {}\n /* loop {} */ let of = b"for i in 0..9 {}"; let date_of = 1; let k = u64::count_ones(3);'
+NEITHER = """// while true {}
+/* loop {} */ let of = b"for i in 0..9 {}"; let or = br#"" loop {} "#; let date_of = 1; let k = u64::count_ones(3); if !(k == 3) {}"""
+DEEP = "calendar::date_after > calendar::year_day > instants::counted"
 
 
 def plants(program, reached):
-    """What is planted: in words, what has to be said of it ("" for nothing), and the changes: file, text, text instead of it (of no text: at the end)."""
+    """What is planted in the source: in words, what has to be said of it ("" for nothing), and the changes: file, text, text instead (of no text: at the end)."""
 
     def first(name, words):
         """Words as the first of a function's body."""
@@ -262,33 +313,46 @@ def plants(program, reached):
     def last(crate, words):
         return program.root / "crates" / crate / "src" / "lib.rt", "", "\n" + words + "\n"
 
-    for key in reached:
-        name = "::".join(key)
+    def below(call, *added):
+        """A call in year_day, which date_after calls, so that what is called is two calls below; counting by a loop stands in instants."""
+        return [first("calendar::year_day", f"let k = {call};"), last("instants", COUNTED), *(last("calendar", words) for words in added)]
+
+    for name in reached:
+        itself = name.rsplit("::", 1)[-1]
         for loop in ("while true {}", "loop {}", "for i in 0..9 {}", "'a: loop {}"):
             yield f"{loop} in {name}", "a loop", [first(name, loop)]
-        yield f"{name} calls itself", "a recursion", [first(name, f"{key[-1]}(0);")]
-        for call in ("std::num::wrapping_add_u64(1, 2);", f"({key[-1]})(0);", "counted!(0);"):
-            yield f"{call} in {name}", "no function of ours", [first(name, call)]
+        yield f"{name} calls itself", f"{name} > {name}", [first(name, f"{itself}(0);")]
+        for call in ("std::num::wrapping_add_u64(1, 2);", f"({itself})(0);", f"{itself}::<>(0);", "counted!(0);"):
+            yield f"{call} in {name}", "is no function of ours", [first(name, call)]
         yield f"neither a loop nor a recursion in {name}", "", [first(name, NEITHER)]
         if name in STARTS:
             path, head, _ = first(name, "")
-            yield f"no {name}", "no such function", [(path, head, "other" + head)]
-    called = "calendar::year_day"  # date_after calls it, so that what it calls is two calls below
-    yield "a loop two calls below date_after", "a loop", [first(called, "let k = instants::counted(n);"), last("instants", COUNTED)]
-    renamed = last("calendar", "use instants::{counted as years_of, moment};")
-    yield "the same by another name", "a loop", [first(called, "let k = years_of(n);"), renamed, last("instants", COUNTED)]
-    yield "the same in a module", "a loop", [first(called, "let k = inner::counted(n);"), last("calendar", f"mod inner {{ {COUNTED} }}")]
-    yield "the same of a type", "a loop", [first(called, "let k = YearDay::counted(p);"), last("calendar", COUNTED_OF_TYPE)]
-    yield "the same by its method", "a loop", [first(called, "let k = p.counted();"), last("calendar", COUNTED_OF_TYPE)]
-    yield "a recursion of two functions", "a recursion", [first("calendar::twelfths", "crate::date_after(e);")]
-    yield "a recursion of two crates", "a recursion", [first("instants::day_index", "calendar::date_of(day);")]
-    yield "a function by day that is not listed", "not in STARTS", [last("calendar", UNLISTED)]
+            yield f"no {name}", f"{name}: no such function", [(path, head, "other" + head)]
+            uncited = head
+            for definition in DEFINITIONS:
+                uncited = uncited.replace(definition, "other")
+            yield f"another contract of {name}", f"{name}: no such function, or its contract", [(path, head, uncited)]
+    yield "a loop two calls deep", DEEP, below("instants::counted(n)")
+    yield "the same by another name", DEEP, below("years_of(n)", "use instants::{counted as years_of, moment,};")
+    yield "the same by another name of its crate", DEEP, below("u64::counted(n)", "use instants as u64;")
+    yield "the same in a module", "a loop", below("inner::counted(n)", f"mod inner {{ {COUNTED} }}")
+    yield "the same in a module that is named as a crate", "a loop", below("counted(n)", f"mod clock {{ {COUNTED} }}", "use clock::counted;")
+    yield "the same of a type", "a loop", below("YearDay::counted(n)", f"impl YearDay {{ {COUNTED} }}")
+    yield "the same as a method", "a loop", below("p.counted()", f"impl YearDay {{ {COUNTED} }}")
+    yield "a type of that name too", "counted has two meanings", below("counted(n)", "use instants::counted;", "struct counted {}")
+    yield "an import of everything", "an import of everything", below("counted(n)", "use instants::*;")
+    yield "types with lifetimes", "impl is not read here", below("p.counted()", f"impl<'a> Held<'a> {{ {COUNTED} }}")
+    yield "a comment in a comment", "a comment in a comment", [first("calendar::year_day", '/* /* */ b" */ while true {} let b = b"x";')]
+    yield "a recursion of two functions", "a recursion: calendar::date_after > calendar::twelfths", [first("calendar::twelfths", "crate::date_after(e);")]
+    yield "a recursion of two crates", "a recursion: calendar::date_of > instants::day_index", [first("instants::day_index", "calendar::date_of(day);")]
+    unlisted = "fn year_of(day: i64) -> u64 ensures { λ r. ⌜ r ≡ yearOf (dateOf day) ⌝ } { 0 }"
+    yield "a function that is not listed", "calendar::year_of: its contract", [last("calendar", unlisted)]
+    yield "a constant one", "calendar::year_of: its contract", [last("calendar", f"pub const {unlisted}")]
     yield "a loop that no date needs", "", [first("calendar::years", "while true {}"), last("instants", COUNTED)]
 
 
-def self_test(root, reached):
-    """Plants, in a copy, what has to be noticed and what has not. Returns the number of copies, and those that were not answered right."""
-    answers = {}
+def planted_in_source(root, reached):
+    """Each plant, and whether what was said of it is what has to be."""
     with tempfile.TemporaryDirectory() as folder:
         for source in (root / "crates.txt", *root.glob("crates/*/src/**/*.rt")):
             place = Path(folder) / source.relative_to(root)
@@ -300,28 +364,38 @@ def self_test(root, reached):
                 copies[source] = copies[source].replace(old, new, 1) if old else copies[source] + new
             for source, text in copies.items():
                 (Path(folder) / source.relative_to(root)).write_text(text, encoding="utf-8")
-            wrong = check(Path(folder))[1]
-            answers[what] = any(said in words for words in wrong) if said else not wrong
+            wrong = check_source(Path(folder))[1]
+            yield what, any(said in words for words in wrong) if said else not wrong
             for source in copies:
                 (Path(folder) / source.relative_to(root)).write_bytes(source.read_bytes())
-    return len(answers), [what for what, right in answers.items() if not right]
+
+
+def planted_in_compiled(text, reached):
+    for name in reached:
+        head = f'(fn-def "{name}" '
+        for said, words in (("a loop", "(loop "), ("a recursion", f'(call (direct (fnRef "{name}")'), ("is no function of ours", "(call (")):
+            yield f"{words} in {name}", any(said in wrong for wrong in check_compiled(text.replace(head, head + words))[1])
+        if name in STARTS:
+            yield f"no {name}", f"{name}: no such function" in check_compiled(text.replace(head, '(fn-def "other" '))[1]
 
 
 def main():
-    roots = [a for a in sys.argv[1:] if a != "--self-test"]
-    root = Path(roots[0]) if roots else Path(__file__).resolve().parent.parent
-    try:
-        reached, wrong = check(root)
-        count, missed = self_test(root, reached) if "--self-test" in sys.argv else (0, [])
-    except Unread as error:
-        sys.exit(f"direct: {error}")
-    for words in wrong + [f"not answered right: {what}" for what in missed]:
+    arguments = [a for a in sys.argv[1:] if a != "--self-test"]
+    if arguments == ["-"]:
+        given, check, planted = sys.stdin.read(), check_compiled, planted_in_compiled
+    else:
+        given, check, planted = Path(arguments[0]) if arguments else Path(__file__).resolve().parent.parent, check_source, planted_in_source
+    reached, wrong = check(given)
+    answers = dict(planted(given, reached)) if "--self-test" in sys.argv and not wrong else {}
+    wrong += [f"planted, and not answered right: {what}" for what, right in answers.items() if not right]
+    for words in wrong:
         print(f"direct: {words}")
     if not wrong:
-        print(f"direct: {len(STARTS)} day-to-date functions and the {len(reached) - len(STARTS)} that they reach, no loop and no recursion")
-    if count and not missed:
-        print(f"direct: {count} planted changes, each answered right")
-    sys.exit(1 if wrong or missed else 0)
+        of = "compiled, " if arguments == ["-"] else ""
+        print(f"direct: {of}{len(STARTS)} functions from a day to its date and the {len(reached) - len(STARTS)} that they reach, no loop and no recursion")
+    if answers and not wrong:
+        print(f"direct: {len(answers)} planted changes, each answered right")
+    sys.exit(1 if wrong else 0)
 
 
 main()
