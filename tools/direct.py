@@ -247,7 +247,7 @@ class Program:
 
 
 def compiled(text):
-    """The same of each function of a program as `rt mir` prints it."""
+    """For each function of a program as `rt mir` prints it, its loops and its calls."""
     for part in text.split('(fn-def "')[1:]:
         calls = re.findall(r'\(call \(direct \(fnRef "([^"]+)"', part)
         others = [("compiled", "call", None)] * (part.count("(call ") - len(calls))
