@@ -21,10 +21,10 @@
  *   - A pointer through which a number is written is not NULL and is aligned for
  *     its type. No two of one call are alike or overlap, nor do they overlap the
  *     bytes that are lent to it. The numbers need no value before the call.
- *   - `buffer` and `bytes` point to `length` bytes of the caller's memory. With
- *     length 0 the pointer is not used, and may be NULL.
+ *   - `buffer`, `bytes` and `rows` point to `length` bytes of the caller's memory.
+ *     With length 0 the pointer is not used, and may be NULL.
  *   - During the call nothing else reads or writes what the call can write (the
- *     numbers, the buffer), nor writes what it reads (the bytes).
+ *     numbers, the buffer), nor writes what it reads (the bytes, the rows).
  *
  * No call keeps anything between two calls, allocates memory, or reads or writes
  * anything but its arguments and what they point to, so any number of threads may
@@ -87,9 +87,9 @@ extern "C" {
  * used, since its arguments would be taken for others: compile it anew.
  */
 #define ENFYS_VERSION_MAJOR 2
-#define ENFYS_VERSION_MINOR 0
-#define ENFYS_VERSION_PATCH 1
-#define ENFYS_VERSION_STRING "2.0.1"
+#define ENFYS_VERSION_MINOR 1
+#define ENFYS_VERSION_PATCH 0
+#define ENFYS_VERSION_STRING "2.1.0"
 
 /*
  * Refusal numbers. 0 is success. Where several apply, the first in the order
@@ -118,8 +118,15 @@ enum {
     ENFYS_RUN_COUNT = 17,      /* number of records of a run outside 1..96 */
     ENFYS_RUN_STEP = 18,       /* step of a run outside 1..86400000000 microseconds */
     ENFYS_UTC_EARLY = 19,      /* UTC before 1972-01-01 */
-    ENFYS_UTC_EXPIRED = 20     /* UTC on 2025-06-28 or later: the list of leap
+    ENFYS_UTC_EXPIRED = 20,    /* UTC on 2025-06-28 or later: the list of leap
                                   seconds has expired */
+    ENFYS_ROWS_LENGTH = 21,    /* rows: under three bytes, or the length field not
+                                  their length, or that not of 2 to 200 rows */
+    ENFYS_ROWS_VERSION = 22,   /* version byte of rows not 1 */
+    ENFYS_ROWS_DAY = 23,       /* a row's day outside 15020..88433, or not after the
+                                  day of the row before */
+    ENFYS_ROWS_SIZE = 24       /* a row's uncertainty outside 1..100000, or XC or XS
+                                  outside -100000..100000 */
 };
 
 /* First and last accepted day, microseconds in a day, and the sizes of records. */
@@ -128,6 +135,11 @@ enum {
 #define ENFYS_DAY_MICROS UINT64_C(86400000000)
 #define ENFYS_RECORD_BYTES 30
 #define ENFYS_RUN_RECORDS 96
+
+/* Nutation rows: the least and the most of a table, and the bytes of n of them. */
+#define ENFYS_ROWS_LEAST 2
+#define ENFYS_ROWS_MOST 200
+#define ENFYS_ROWS_BYTES(n) (3 + 16 * (n))
 
 /*
  * UTC days, as day numbers: the first, and that on which the list expires. Either
@@ -235,6 +247,53 @@ uint32_t enfys_zonal(int64_t day, uint64_t micros, int32_t *ut1, int32_t *lod,
  */
 uint32_t enfys_nutation(int64_t day, uint64_t micros, int64_t *x, int64_t *y,
                         uint64_t *uncertainty);
+
+/*
+ * The same with rows of the caller's in place of the built-in ones, which are of
+ * 1984 to 2013: a later table needs no later version of the library. The rows are
+ * handed over as bytes, each number with its high byte first:
+ *
+ *    0-1   length of the whole, 3 + 16 n for n rows, n from 2 to 200: 35 to 3203
+ *    2     version, 1
+ *    3-    n rows of 16 bytes
+ *
+ * and a row:
+ *
+ *    0-3   day number of its date, unsigned; the date is 0 h TT of that day
+ *    4-7   XC           \
+ *    8-11  XS            } signed, two's complement, in hundredths of a
+ *   12-15  uncertainty  /  microarcsecond
+ *
+ * Days are from 15020 to 88433, each later than the one before. XC and XS are from
+ * -100000 to 100000 (1000 microarcseconds), uncertainties from 1 to 100000.
+ *
+ * Refused, in this order, each looked for in all rows before the next:
+ *
+ *   21  under three bytes; or the length field is not `length`, the whole of it: a
+ *       slice that is longer by 65536 is refused too; or it is not that of 2 to 200
+ *       rows
+ *   22  the version
+ *   23  a day outside its limits, or not later than that of the row before
+ *   24  an uncertainty, XC or XS outside its limits
+ *   8, 9  of the instant
+ *
+ * Units, rules and distances are those of enfys_nutation, for every accepted table:
+ * x and y are within 2 of the exact offsets of those rows, the uncertainty is exact
+ * and rounded up. Between two rows XC, XS and the uncertainty are interpolated. Up to
+ * the first row's date, and from the last row's on, XC and XS are that row's, and the
+ * uncertainty of the axes grows by 265 nanoarcseconds for each day of the way. The
+ * built-in rows, written so, give the numbers of enfys_nutation at every instant.
+ *
+ * A call reads `rows` and changes none of it. It keeps nothing: each call tests all
+ * rows again, also where the caller knows that they are good. COST. It needs about
+ * 6400 bytes of stack for the rows.
+ *
+ * The tool enfysgar-rows makes such bytes of a text that an operator can write, and
+ * text of the bytes.
+ */
+uint32_t enfys_nutation_rows(const uint8_t *rows, size_t length, int64_t day,
+                             uint64_t micros, int64_t *x, int64_t *y,
+                             uint64_t *uncertainty);
 
 /*
  * (g) Records. A record is 30 bytes, each number with its high byte first:
@@ -382,6 +441,16 @@ int64_t enfys_nutation_x(int64_t day, uint64_t micros);
 int64_t enfys_nutation_y(int64_t day, uint64_t micros);
 uint64_t enfys_nutation_uncertainty(int64_t day, uint64_t micros);
 uint32_t enfys_nutation_refusal(int64_t day, uint64_t micros);
+
+/* (f) The same with rows of the caller's, as in enfys_nutation_rows. */
+int64_t enfys_nutation_rows_x(const uint8_t *rows, size_t length, int64_t day,
+                              uint64_t micros);
+int64_t enfys_nutation_rows_y(const uint8_t *rows, size_t length, int64_t day,
+                              uint64_t micros);
+uint64_t enfys_nutation_rows_uncertainty(const uint8_t *rows, size_t length,
+                                         int64_t day, uint64_t micros);
+uint32_t enfys_nutation_rows_refusal(const uint8_t *rows, size_t length, int64_t day,
+                                     uint64_t micros);
 
 /* (g) What a record has, as in enfys_record_read. */
 int64_t enfys_record_day(const uint8_t *bytes, size_t length);
