@@ -179,16 +179,27 @@ static size_t pages(size_t size)
     return (size + page - 1) / page * page;
 }
 
-uint8_t *lent(size_t size)
+/* Whole pages for so many bytes, and one that is unmapped, `at` bytes from their start. */
+static uint8_t *mapped(size_t size, size_t at)
 {
-    size_t whole = pages(size), guard = pages(1);
-    uint8_t *start = mmap(NULL, whole + guard, PROT_READ | PROT_WRITE, MAP_PRIVATE | MAP_ANONYMOUS, -1, 0);
+    size_t guard = pages(1);
+    uint8_t *start = mmap(NULL, pages(size) + guard, PROT_READ | PROT_WRITE, MAP_PRIVATE | MAP_ANONYMOUS, -1, 0);
 
-    if (start == MAP_FAILED || mprotect(start + whole, guard, PROT_NONE) != 0) {
+    if (start == MAP_FAILED || mprotect(start + at, guard, PROT_NONE) != 0) {
         perror("mmap");
         exit(2);
     }
-    return start + whole - size;
+    return start;
+}
+
+uint8_t *lent(size_t size)
+{
+    return mapped(size, pages(size)) + pages(size) - size;
+}
+
+uint8_t *lent_behind(size_t size)
+{
+    return mapped(size, 0) + pages(1);
 }
 
 void lent_free(uint8_t *block, size_t size)

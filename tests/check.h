@@ -103,5 +103,7 @@ uint64_t some_micros(void);
  */
 uint8_t *lent(size_t size);
 void lent_free(uint8_t *block, size_t size);
+/* One that begins where unmapped memory ends. The bytes behind it are not guarded, and it is not freed. */
+uint8_t *lent_behind(size_t size);
 
 #endif

@@ -34,6 +34,8 @@ extern int model_mistake;
 #define MARK UINT64_C(137438953472)
 #define RECORD_BYTES 30
 #define RUN_RECORDS 96
+#define LEAST_ROWS 2
+#define MOST_ROWS 200
 
 struct date {
     uint64_t year, month, day;
@@ -47,6 +49,11 @@ struct instant {
 struct record {
     struct instant at;
     int32_t number[3]; /* UT1, length of day, rate */
+};
+
+/* A row of nutation amplitudes: the last three are in hundredths of a microarcsecond. */
+struct row {
+    int64_t day, xc, xs, error;
 };
 
 /* Calendar, instants and clock words (model_time.c). */
@@ -71,11 +78,16 @@ uint32_t model_multipliers(const int64_t k[6]);
 /* The three corrections of an accepted instant, in the units of the answers (model_zonal.c). */
 void model_zonal(struct instant at, double number[3]);
 
-/* The two offsets of an accepted instant in nanoarcseconds, and the uncertainty (model_nutation.c). */
+/* The two offsets of an accepted instant in nanoarcseconds, and the uncertainty; the built-in rows (model_nutation.c).
+ */
+#define MODEL_ROWS 30
+extern const struct row model_built_in[MODEL_ROWS];
 void model_nutation(struct instant at, double offset[2]);
 uint64_t model_uncertainty(struct instant at);
-#define MODEL_ROWS 30
-int64_t model_row_day(int row);
+
+/* The same for any instant with rows from bytes. */
+uint32_t model_nutation_rows(const uint8_t *bytes, size_t length, struct instant at, double offset[2],
+                             uint64_t *uncertainty);
 
 /* UTC readings, in the fields of model_instant, and instants (model_utc.c). */
 uint32_t model_utc_to_tt(const uint64_t field[7], struct instant *at);

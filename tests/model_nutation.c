@@ -1,18 +1,18 @@
 /*
  * Free-core-nutation offsets in double precision, with libm's sine and cosine, and
- * their uncertainty in whole numbers. Derived from the IERS routine FCNNUT, whose rows
- * these are; not IERS Conventions software (NOTICE, docs/DIFFERENCES.md).
+ * their uncertainty in whole numbers, over the built-in rows or over rows that are read
+ * from bytes. Derived from the IERS routine FCNNUT, whose rows the built-in ones are;
+ * not IERS Conventions software (NOTICE, docs/DIFFERENCES.md).
  */
 #include "model.h"
 
 #include <math.h>
+#include <stdlib.h>
 
 #define DAY ((int64_t)DAY_MICROS)
 
 /* Day, amplitudes XC and XS, uncertainty; the last three in hundredths of a microarcsecond. */
-static const struct {
-    int64_t day, xc, xs, error;
-} row[MODEL_ROWS] = {
+const struct row model_built_in[MODEL_ROWS] = {
     {45700, 455, -3658, 1972},    {46066, -14182, -10535, 1112}, {46431, -24656, -17021, 947},
     {46796, -28189, -15924, 865}, {47161, -25505, -4358, 811},   {47527, -21046, -8856, 731},
     {47892, -18779, -5735, 641},  {48257, -16301, 2626, 552},    {48622, -14553, 4465, 480},
@@ -25,36 +25,37 @@ static const struct {
     {55562, 76, 25370, 114},      {55927, 2547, 27166, 107},     {56293, 11342, 25650, 186},
 };
 
-int64_t model_row_day(int i)
-{
-    return row[i].day;
-}
-
 /* The last row at or before the instant; -1 before the first. */
-static int row_before(struct instant at)
+static int row_before(const struct row *row, int rows, struct instant at)
 {
     int i = -1;
 
-    while (i + 1 < MODEL_ROWS && row[i + 1].day + MISTAKE(31, 0, i + 1 == MODEL_ROWS - 1 ? -1 : 0) <= at.day)
+    while (i + 1 < rows && row[i + 1].day + MISTAKE(31, 0, i + 1 == rows - 1 ? -1 : 0) <= at.day)
         i++;
     return i;
 }
 
-void model_nutation(struct instant at, double offset[2])
+/* The microseconds from a row's date to an instant. */
+static int64_t since(const struct row *row, struct instant at)
+{
+    return (at.day - row->day) * DAY + (int64_t)at.micros;
+}
+
+static void offsets_of(const struct row *row, int rows, struct instant at, double offset[2])
 {
     double date = (double)at.day + (double)at.micros / (double)DAY;
     double phi = 2.0 * 3.14159265358979323846 / MISTAKE(32, -430.21, 430.21) * (date - 51544.5);
-    int i = row_before(at);
+    int i = row_before(row, rows, at);
     double xc, xs;
 
     if (i < 0) {
         xc = (double)row[0].xc;
         xs = (double)row[0].xs;
-    } else if (i == MODEL_ROWS - 1) {
+    } else if (i == rows - 1) {
         xc = (double)row[i].xc;
         xs = (double)row[i].xs;
     } else {
-        double part = (date - (double)row[i].day) / (double)(row[i + 1].day - row[i].day);
+        double part = (double)since(&row[i], at) / (double)((row[i + 1].day - row[i].day) * DAY);
 
         xc = (double)row[i].xc + (double)(row[i + 1].xc - row[i].xc) * part;
         xs = (double)row[i].xs + (double)(row[i + 1].xs - row[i].xs) * part + MISTAKE(33, 0, i == 27);
@@ -65,24 +66,137 @@ void model_nutation(struct instant at, double offset[2])
 }
 
 /* Twice u in nanoarcseconds is 20 times u in hundredths of a microarcsecond; 0.1325 a day is 265 so. */
-uint64_t model_uncertainty(struct instant at)
+static uint64_t uncertainty_of(const struct row *row, int rows, struct instant at)
 {
-    int i = row_before(at);
+    int i = row_before(row, rows, at);
     __int128 above, below;
 
-    if (i < 0 || i == MODEL_ROWS - 1) {
-        int64_t days = i < 0 ? row[0].day - at.day : at.day - row[i].day;
-        int64_t micros = i < 0 ? -(int64_t)at.micros : (int64_t)at.micros;
+    if (i < 0 || i == rows - 1) {
+        const struct row *end = &row[i < 0 ? 0 : i];
 
-        above = (__int128)20 * row[i < 0 ? 0 : i].error * DAY + (__int128)265 * (days * DAY + micros);
+        above = (__int128)20 * end->error * DAY + (__int128)265 * (i < 0 ? -since(end, at) : since(end, at));
         below = DAY;
     } else {
-        int64_t since = (at.day - row[i].day) * DAY + (int64_t)at.micros;
-
         below = (__int128)(row[i + 1].day - row[i].day) * DAY;
-        above = 20 * (row[i].error * below + (__int128)(row[i + 1].error - row[i].error) * since);
+        above = 20 * (row[i].error * below + (__int128)(row[i + 1].error - row[i].error) * since(&row[i], at));
         if (above < 0)
             above = -above;
     }
     return (uint64_t)((above + MISTAKE(35, below - 1, 0)) / below);
+}
+
+void model_nutation(struct instant at, double offset[2])
+{
+    offsets_of(model_built_in, MODEL_ROWS, at, offset);
+}
+
+uint64_t model_uncertainty(struct instant at)
+{
+    return uncertainty_of(model_built_in, MODEL_ROWS, at);
+}
+
+/* Rows from bytes. The comment beside a mistake says what it does. */
+
+static uint64_t number(const uint8_t *at, int bytes)
+{
+    uint64_t x = 0;
+
+    for (int i = 0; i < bytes; i++)
+        x = x * 256 + at[i];
+    return x;
+}
+
+static int64_t signed_number(const uint8_t *at)
+{
+    int64_t x = (int64_t)number(at, 4);
+
+    return x < INT64_C(0x80000000) ? x : x - INT64_C(0x100000000);
+}
+
+static struct row row_of(const uint8_t *at)
+{
+    struct row row = {(int64_t)number(at, 4), signed_number(at + 4), signed_number(at + 8), signed_number(at + 12)};
+
+    if (MISTAKE(117, 0, 1)) /* the low byte of a day first */
+        row.day = at[0] + 256 * (at[1] + 256 * (at[2] + INT64_C(256) * at[3]));
+    if (MISTAKE(118, 0, 1)) /* the uncertainty without its sign */
+        row.error = llabs(row.error);
+    if (MISTAKE(131, 0, 1)) /* XS before XC */
+        row = (struct row){row.day, row.xs, row.xc, row.error};
+    return row;
+}
+
+/* Whether the length is what the bytes say, and that of 2 to 200 rows. */
+static int length_right(const uint8_t *bytes, size_t length)
+{
+    size_t whole = MISTAKE(113, length, length % 65536); /* by 16 bits of it */
+    uint64_t field;
+
+    if (length < 3)
+        return 0;
+    field = MISTAKE(112, number(bytes, 2), whole);                     /* the field is not looked at */
+    if (field != whole && MISTAKE(132, 1, field % 256 != whole % 256)) /* the low byte alone */
+        return 0;
+    if ((whole - 3) % 16 != 0 && MISTAKE(133, 1, 0)) /* bytes behind the last row */
+        return 0;
+    return whole >= 3 + 16 * (size_t)MISTAKE(122, LEAST_ROWS, 1) &&
+           whole < 3 + 16 * (size_t)MISTAKE(121, MOST_ROWS + 1, MOST_ROWS + 2);
+}
+
+static int day_right(const struct row *row, int i, int rows)
+{
+    if (row[i].day < MISTAKE(123, FIRST_DAY, 15019) || row[i].day > MISTAKE(124, LAST_DAY, 88434))
+        return 0;
+    if (i == 0 || MISTAKE(125, 0, i == rows - 1)) /* the last row is not compared */
+        return 1;
+    return row[i].day > row[i - 1].day - MISTAKE(110, 0, 1); /* or equal */
+}
+
+static int sizes_right(const struct row *row)
+{
+    return row->error >= MISTAKE(114, 1, 0) && row->error <= MISTAKE(126, 100000, 100001) &&
+           row->xc <= MISTAKE(115, 100000, 100001) && row->xc >= MISTAKE(127, -100000, -100001) &&
+           row->xs <= MISTAKE(116, 100000, 100001) && row->xs >= MISTAKE(128, -100000, -100001);
+}
+
+/* The refusal of rows, 21 to 24, or 0 with the rows and how many they are. */
+static uint32_t read_rows(const uint8_t *bytes, size_t length, struct row row[MOST_ROWS + 1], int *rows)
+{
+    if (MISTAKE(129, 0, length >= 3 && bytes[2] != 1)) /* the version first */
+        return 22;
+    if (!length_right(bytes, length))
+        return 21;
+    *rows = (int)((length % 65536 - 3) / 16);
+    for (int i = 0; i < *rows; i++)
+        row[i] = row_of(bytes + 3 + 16 * i);
+    if (bytes[2] != 1 && MISTAKE(119, 1, 0)) /* any version */
+        return 22;
+    for (int i = 0; i < *rows; i++) {
+        if (MISTAKE(111, 0, !sizes_right(&row[i]))) /* row by row */
+            return 24;
+        if (!day_right(row, i, *rows))
+            return 23;
+    }
+    for (int i = 0; i < *rows; i++)
+        if (!sizes_right(&row[i]))
+            return 24;
+    return 0;
+}
+
+uint32_t model_nutation_rows(const uint8_t *bytes, size_t length, struct instant at, double offset[2],
+                             uint64_t *uncertainty)
+{
+    struct row row[MOST_ROWS + 1];
+    int rows = 0;
+    uint32_t refusal = read_rows(bytes, length, row, &rows), instant = model_accept(at);
+
+    offset[0] = offset[1] = 0.0;
+    *uncertainty = 0;
+    if (MISTAKE(120, 0, instant == 8) || MISTAKE(130, 0, refusal > 22 && instant != 0)) /* the instant first */
+        return instant;
+    if (refusal != 0 || instant != 0)
+        return refusal != 0 ? refusal : instant;
+    offsets_of(row, rows, at, offset);
+    *uncertainty = uncertainty_of(row, rows, at);
+    return 0;
 }

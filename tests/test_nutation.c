@@ -49,7 +49,7 @@ static void reference(void)
 static void around_rows(void)
 {
     for (int i = 0; i < MODEL_ROWS; i++) {
-        int64_t day = model_row_day(i);
+        int64_t day = model_built_in[i].day;
 
         for (uint64_t m = 0; m < 5; m++) {
             nutation(day - 1, DAY_MICROS - 1 - m);
