@@ -11,16 +11,23 @@
 #include <fenv.h>
 #include <xmmintrin.h>
 
-#define NUMBERS 96
+#define NUMBERS 104
 #define FLUSH_TO_ZERO 0x8040u /* of results and of operands */
 
 static const int directions[] = {FE_UPWARD, FE_DOWNWARD, FE_TOWARDZERO};
 
+/* Three nutation rows: the days 20000, 50000 and 80000. */
+static const uint8_t rows[ENFYS_ROWS_BYTES(3)] = {
+    0x00, 0x33, 0x01, 0x00, 0x00, 0x4e, 0x20, 0x00, 0x00, 0x12, 0x34, 0xff, 0xff, 0xfe, 0x01, 0x00, 0x00,
+    0x07, 0xd0, 0x00, 0x00, 0xc3, 0x50, 0xff, 0xfe, 0x79, 0x60, 0x00, 0x01, 0x2f, 0xd1, 0x00, 0x00, 0x00,
+    0x03, 0x00, 0x01, 0x38, 0x80, 0x00, 0x01, 0x86, 0x9f, 0x00, 0x00, 0x00, 0x01, 0x00, 0x01, 0x86, 0xa0,
+};
+
 /* The numbers of an instant by the calls that give a whole answer; a record is read from `bytes`. */
 static int whole_answers(int64_t day, uint64_t micros, const uint8_t bytes[ENFYS_RECORD_BYTES], uint64_t *number)
 {
-    int64_t i[8] = {0};
-    uint64_t u[16] = {0};
+    int64_t i[10] = {0};
+    uint64_t u[17] = {0};
     int32_t s[6] = {0};
     double tide[2] = {0.0, 0.0};
     int n = 0;
@@ -36,9 +43,10 @@ static int whole_answers(int64_t day, uint64_t micros, const uint8_t bytes[ENFYS
     number[n++] = enfys_record_read(bytes, ENFYS_RECORD_BYTES, &i[6], &u[7], &s[3], &s[4], &s[5]);
     number[n++] = enfys_utc_to_tt(u[0], u[1], u[2], 23, 59, 59, micros % 1000000, &i[7], &u[8]);
     number[n++] = enfys_tt_to_utc(day, micros, &u[9], &u[10], &u[11], &u[12], &u[13], &u[14], &u[15]);
-    for (int k = 0; k < 8; k++)
+    number[n++] = enfys_nutation_rows(rows, sizeof rows, day, micros, &i[8], &i[9], &u[16]);
+    for (int k = 0; k < 10; k++)
         number[n++] = (uint64_t)i[k];
-    for (int k = 0; k < 16; k++)
+    for (int k = 0; k < 17; k++)
         number[n++] = u[k];
     for (int k = 0; k < 6; k++)
         number[n++] = (uint64_t)s[k];
@@ -101,6 +109,10 @@ static int answers(int64_t day, uint64_t micros, uint64_t number[NUMBERS])
     number[n++] = (uint64_t)enfys_nutation_y(day, micros);
     number[n++] = enfys_nutation_uncertainty(day, micros);
     number[n++] = enfys_nutation_refusal(day, micros);
+    number[n++] = (uint64_t)enfys_nutation_rows_x(rows, sizeof rows, day, micros);
+    number[n++] = (uint64_t)enfys_nutation_rows_y(rows, sizeof rows, day, micros);
+    number[n++] = enfys_nutation_rows_uncertainty(rows, sizeof rows, day, micros);
+    number[n++] = enfys_nutation_rows_refusal(rows, sizeof rows, day, micros);
     number[n++] = enfys_run_write(day, micros, 2, 900000000, run, sizeof run);
     for (size_t i = 0; i < sizeof run; i++)
         sum = sum * 257 + run[i];
@@ -136,6 +148,7 @@ static void compare(int64_t day, uint64_t micros)
 int main(int argc, char **argv)
 {
     begin("environment", argc, argv);
+    SAME_U(enfys_nutation_rows_refusal(rows, sizeof rows, 50000, 0), 0, "the three rows");
     for (int i = 0; i < 20000; i++)
         compare(some_day(), some_micros());
     return end(NULL);
