@@ -2,10 +2,10 @@
 #
 #   make demo                a day of corrections, readable
 #   make test                the whole gate
-#   make examples            the example daemon, held to its stored output
+#   make examples            the example daemon, and nutation rows from a file, held to their stored output
 #   make bench               times against plain C, and ERFA where it is installed; status 1 above a limit
-#   make install PREFIX=..   header, archive, program, pkg-config file, manual page, notice, licence, rules, differences, changes
-#                            and the source of the routines; PREFIX has no spaces
+#   make install PREFIX=..   header, archive, program, the tool enfysgar-rows with an example, pkg-config file, manual pages, notice,
+#                            licence, rules, differences, changes and the source of the routines; PREFIX has no spaces
 #   make version             the version, which the header has too
 #   make lint                the layout of the C files, where clang-format is installed
 #   make clean               removes what was made
@@ -47,10 +47,19 @@ build/examples/%: examples/%.c include/enfysgar.h $(ARCHIVE)
 demo: $(PROGRAM) build/examples/show_records
 	echo "$(DAY)" | $(PROGRAM) | build/examples/show_records
 
-examples: build/examples/daemon build/examples/show_records
+build/examples/built_in_rows.bin: examples/built_in_rows.txt tools/rows
+	@mkdir -p build/examples
+	tools/rows pack examples/built_in_rows.txt -o $@
+
+# nutation_rows: within the rows, after the last, and for a file that has no rows, where its status is 1
+examples: build/examples/daemon build/examples/show_records build/examples/nutation_rows build/examples/built_in_rows.bin
 	build/examples/daemon >build/examples/daemon.out
 	diff -u examples/daemon.expected build/examples/daemon.out
-	@echo "examples: the daemon wrote what it should"
+	build/examples/nutation_rows build/examples/built_in_rows.bin 54466 1 >build/examples/nutation_rows.out
+	build/examples/nutation_rows build/examples/built_in_rows.bin 61360 43200000000 >>build/examples/nutation_rows.out
+	! build/examples/nutation_rows examples/built_in_rows.txt 54466 1 >>build/examples/nutation_rows.out
+	diff -u examples/nutation_rows.expected build/examples/nutation_rows.out
+	@echo "examples: the daemon and nutation_rows wrote what they should"
 
 bench: $(ARCHIVE)
 	bench/run
@@ -64,8 +73,11 @@ install: $(ARCHIVE) $(PROGRAM)
 	install -m 644 include/enfysgar.h $(DESTDIR)$(PREFIX)/include/
 	install -m 644 $(ARCHIVE) $(DESTDIR)$(PREFIX)/lib/
 	install -m 755 $(PROGRAM) $(DESTDIR)$(PREFIX)/bin/
-	install -m 644 packaging/run_day.1 $(DESTDIR)$(PREFIX)/share/man/man1/
+	install -m 755 tools/rows $(DESTDIR)$(PREFIX)/bin/enfysgar-rows
+	install -m 644 packaging/run_day.1 packaging/enfysgar-rows.1 $(DESTDIR)$(PREFIX)/share/man/man1/
 	install -m 644 NOTICE LICENSE CHANGELOG.md docs/DIFFERENCES.md docs/RULES.md $(DOC)/
+	install -d $(DOC)/examples
+	install -m 644 examples/built_in_rows.txt $(DOC)/examples/
 	install -d $(DESTDIR)$(PREFIX)/share/enfysgar/docs
 	install -m 644 NOTICE LICENSE $(DESTDIR)$(PREFIX)/share/enfysgar/
 	install -m 644 docs/DIFFERENCES.md $(DESTDIR)$(PREFIX)/share/enfysgar/docs/

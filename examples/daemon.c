@@ -36,6 +36,10 @@ static const char *const meaning[] = {
     "step outside 1..86400000000 microseconds",
     "UTC before 1972-01-01",
     "UTC beyond the leap-second table: update the library",
+    "nutation rows: wrong length, or not 2 to 200 rows",
+    "version of the nutation rows not 1",
+    "day of a nutation row out of its limits or not rising",
+    "uncertainty or amplitude of a row out of its limits",
 };
 
 static const char *text(uint32_t refusal)
@@ -216,6 +220,28 @@ static void show(uint32_t refusal, const char *call)
     printf("  %2" PRIu32 "  %-54s %s\n", refusal, text(refusal), call);
 }
 
+/* A call for each refusal of nutation rows. */
+static void show_refusals_of_rows(void)
+{
+    /* The days 50000 and 50001, XC and XS 1 and 2 hundredths of a microarcsecond, uncertainty 3. */
+    static const uint8_t good[ENFYS_ROWS_BYTES(2)] = {
+        0x00, 0x23, 0x01, 0x00, 0x00, 0xC3, 0x50, 0x00, 0x00, 0x00, 0x01, 0x00, 0x00, 0x00, 0x02, 0x00, 0x00, 0x00,
+        0x03, 0x00, 0x00, 0xC3, 0x51, 0x00, 0x00, 0x00, 0x01, 0x00, 0x00, 0x00, 0x02, 0x00, 0x00, 0x00, 0x03,
+    };
+    uint8_t rows[4][sizeof good];
+
+    for (int i = 0; i < 4; i++)
+        memcpy(rows[i], good, sizeof good);
+    rows[0][1] = 36;
+    rows[1][2] = 2;
+    rows[2][22] = 0x50;
+    rows[3][34] = 0;
+    show(enfys_nutation_rows_refusal(rows[0], sizeof good, 50000, 0), "rows that say they have 36 bytes");
+    show(enfys_nutation_rows_refusal(rows[1], sizeof good, 50000, 0), "rows of version 2");
+    show(enfys_nutation_rows_refusal(rows[2], sizeof good, 50000, 0), "two rows of one day");
+    show(enfys_nutation_rows_refusal(rows[3], sizeof good, 50000, 0), "a row with uncertainty 0");
+}
+
 /* A call for each refusal. */
 static void show_refusals(void)
 {
@@ -249,6 +275,7 @@ static void show_refusals(void)
     show(enfys_run_write(54465, 0, 96, 0, run, sizeof run), "a run with a step of 0");
     show(enfys_utc_to_tt_refusal(1971, 12, 31, 23, 59, 59, 0), "UTC 1971-12-31 23:59:59");
     show(enfys_tt_to_utc_refusal(ENFYS_UTC_EXPIRY_DAY + 1, 0), "UTC of day 60855");
+    show_refusals_of_rows();
 }
 
 int main(int argc, char **argv)
