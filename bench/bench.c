@@ -1,12 +1,13 @@
 /*
- * Times the library's calls beside plain C (tests/model*.c, with libm's sine and cosine, and plain.h for
- * dates, UTC and phases), and beside ERFA where it is installed (WITH_ERFA), in one process on the same inputs.
- * A row whose ratio is above the most that is allowed for it is marked, and the status is 1.
+ * Times the library's calls beside plain C (tests/model*.c, with libm's sine and cosine, plain.h for dates,
+ * UTC and phases, plain_rows.h for nutation rows), and beside ERFA where it is installed (WITH_ERFA), in one process on
+ * the same inputs. A row whose ratio is above the most that is allowed for it is marked, and the status is 1.
  */
 #define _POSIX_C_SOURCE 199309L
 #include "work.h"
 
 #include <stdio.h>
+#include <stdlib.h>
 #include <string.h>
 #include <time.h>
 
@@ -45,6 +46,10 @@ static struct row {
 } rows[] = {
     {"three corrections", corrections, corrections_plain, 0.45, 0, 0},
     {"both offsets and the uncertainty, against two", offsets, offsets_plain, 1.9, 0, 0},
+    {"the same with 30 rows from bytes", offsets_30, offsets_30_plain, 0, 0, 0},
+    {"with 200 rows from bytes", offsets_200, offsets_200_plain, 0, 0, 0},
+    {"with 30 rows, against our built-in ones", offsets_30, offsets, 0, 0, 0},
+    {"with 200 rows, against our built-in ones", offsets_200, offsets, 0, 0, 0},
     {"day to date", date, date_plain, 1.1, 0, 0},
     {"4096 days in a row to dates", dates, dates_plain, 1.2, 0, 0},
     {"record read", read_back, read_back_plain, 0.8, 0, 0},
@@ -93,8 +98,34 @@ static uint64_t next(void)
     return x ^= x << 17;
 }
 
+/* The bytes of some rows. */
+static void pack(uint8_t *bytes, const struct nutation_row *row, int rows)
+{
+    const int length = 3 + 16 * rows;
+
+    bytes[0] = (uint8_t)(length >> 8), bytes[1] = (uint8_t)(length & 0xff), bytes[2] = 1;
+    for (int i = 0; i < rows; i++) {
+        const int64_t number[4] = {row[i].day, row[i].xc, row[i].xs, row[i].error};
+
+        for (int k = 0; k < 16; k++)
+            bytes[3 + 16 * i + k] = (uint8_t)((uint64_t)number[k / 4] >> (24 - 8 * (k % 4)) & 0xff);
+    }
+}
+
+static void make_rows(void)
+{
+    struct nutation_row row[200];
+
+    for (int i = 0; i < 200; i++)
+        row[i] = (struct nutation_row){15200 + 365 * i, (int64_t)(next() % 60000) - 30000,
+                                       (int64_t)(next() % 60000) - 30000, (int64_t)(100 + next() % 1000)};
+    pack(rows_30, model_built_in, 30);
+    pack(rows_200, row, 200);
+}
+
 static void make_inputs(void)
 {
+    make_rows();
     for (int i = 0; i < INPUTS; i++) {
         at[i] = (struct instant){(int64_t)(16000 + next() % 72000), next() % 86400000000};
         for (int k = 0; k < 6; k++)
@@ -133,6 +164,23 @@ static int same_date(int64_t day)
     return same;
 }
 
+/* Whether plain_rows.h and the library answer alike with these rows, and have the same refusals of damaged ones. */
+static int same_rows(uint8_t *rows, size_t length, int i)
+{
+    int64_t x[2] = {0, 0}, y[2] = {0, 0};
+    uint64_t u[2] = {0, 0};
+    size_t damaged = (size_t)i % length;
+    uint8_t kept = rows[damaged];
+    int same = enfys_nutation_rows(rows, length, at[i].day, at[i].micros, x, y, u) == 0 &&
+               nutation_plain_rows(rows, length, at[i].day, at[i].micros, x + 1, y + 1, u + 1) == 0 &&
+               llabs(x[0] - x[1]) <= 3 && llabs(y[0] - y[1]) <= 3 && u[0] - u[1] + 1 <= 2;
+
+    rows[damaged] ^= (uint8_t)(1 << next() % 8);
+    same &= rows_plain_refusal(rows, length) == enfys_nutation_rows_refusal(rows, length, 50000, 0);
+    rows[damaged] = kept;
+    return same;
+}
+
 /* Whether what is timed answers right: at the inputs, for dates on every day, and for UTC around the steps as well. */
 static int right(void)
 {
@@ -147,6 +195,8 @@ static int right(void)
         wrong += x.year != y.year || x.month != y.month || x.day != y.day || written(i) != 0;
         wrong += !same_utc(utc_at[i]) || !same_utc(at[i]) || utc_to_tt(i) != utc_to_tt_plain(i);
         wrong += constituent(i) != constituent_plain(i) || phase(i) != phase_plain(i);
+        wrong += !same_rows(rows_30, sizeof rows_30, i) || !same_rows(rows_200, sizeof rows_200, i);
+        wrong += offsets_30(i) != offsets(i);
     }
     for (int i = 0; i < STEPS; i++)
         for (uint64_t micros = 0; micros < 100000000; micros += 500000)
@@ -160,7 +210,7 @@ int main(void)
 
     make_inputs();
     if (!right()) {
-        fprintf(stderr, "bench: plain.h is wrong or not as the library, or a record was not written\n");
+        fprintf(stderr, "bench: plain C is wrong or not as the library, or a record was not written\n");
         return 2;
     }
     /* Several passes over all rows, so that what else the machine does for some seconds spoils no row. */

@@ -5,6 +5,7 @@
 #include "../include/enfysgar.h"
 #include "../tests/model.h"
 #include "plain.h"
+#include "plain_rows.h"
 
 #ifdef WITH_ERFA
 #include <erfa.h>
@@ -19,6 +20,7 @@ static uint64_t reading[INPUTS][7];
 static int64_t multiplier[INPUTS][6];
 static uint8_t record[INPUTS][30];
 static uint8_t run[96 * 30];
+static uint8_t rows_30[3 + 16 * 30], rows_200[3 + 16 * 200]; /* the built-in rows, and others through the whole range */
 
 /* What is timed: one call, or one group of calls, for input i. It returns a number that depends on the answers. */
 typedef double work(int i);
@@ -90,6 +92,40 @@ static double offsets_plain(int i)
 
     model_nutation(at[i], offset);
     return offset[0] + offset[1];
+}
+
+/* What gives the offsets with rows from bytes: the library's call or plain C's. */
+typedef uint32_t rows_call(const uint8_t *rows, size_t length, int64_t day, uint64_t micros, int64_t *x, int64_t *y,
+                           uint64_t *uncertainty);
+
+__attribute__((always_inline)) static inline double offsets_of(rows_call *call, const uint8_t *rows, size_t length,
+                                                               int i)
+{
+    int64_t x = 0, y = 0;
+    uint64_t uncertainty = 0;
+    uint32_t refusal = call(rows, length, at[i].day, at[i].micros, &x, &y, &uncertainty);
+
+    return refusal + (double)x + (double)y;
+}
+
+static double offsets_30(int i)
+{
+    return offsets_of(enfys_nutation_rows, rows_30, sizeof rows_30, i);
+}
+
+static double offsets_30_plain(int i)
+{
+    return offsets_of(nutation_plain_rows, rows_30, sizeof rows_30, i);
+}
+
+static double offsets_200(int i)
+{
+    return offsets_of(enfys_nutation_rows, rows_200, sizeof rows_200, i);
+}
+
+static double offsets_200_plain(int i)
+{
+    return offsets_of(nutation_plain_rows, rows_200, sizeof rows_200, i);
 }
 
 static double date(int i)

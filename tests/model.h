@@ -52,7 +52,7 @@ struct record {
 };
 
 /* A row of nutation amplitudes: the last three are in hundredths of a microarcsecond. */
-struct row {
+struct nutation_row {
     int64_t day, xc, xs, error;
 };
 
@@ -81,7 +81,7 @@ void model_zonal(struct instant at, double number[3]);
 /* The two offsets of an accepted instant in nanoarcseconds, and the uncertainty; the built-in rows (model_nutation.c).
  */
 #define MODEL_ROWS 30
-extern const struct row model_built_in[MODEL_ROWS];
+extern const struct nutation_row model_built_in[MODEL_ROWS];
 void model_nutation(struct instant at, double offset[2]);
 uint64_t model_uncertainty(struct instant at);
 

@@ -12,7 +12,7 @@
 #define DAY ((int64_t)DAY_MICROS)
 
 /* Day, amplitudes XC and XS, uncertainty; the last three in hundredths of a microarcsecond. */
-const struct row model_built_in[MODEL_ROWS] = {
+const struct nutation_row model_built_in[MODEL_ROWS] = {
     {45700, 455, -3658, 1972},    {46066, -14182, -10535, 1112}, {46431, -24656, -17021, 947},
     {46796, -28189, -15924, 865}, {47161, -25505, -4358, 811},   {47527, -21046, -8856, 731},
     {47892, -18779, -5735, 641},  {48257, -16301, 2626, 552},    {48622, -14553, 4465, 480},
@@ -26,7 +26,7 @@ const struct row model_built_in[MODEL_ROWS] = {
 };
 
 /* The last row at or before the instant; -1 before the first. */
-static int row_before(const struct row *row, int rows, struct instant at)
+static int row_before(const struct nutation_row *row, int rows, struct instant at)
 {
     int i = -1;
 
@@ -36,12 +36,12 @@ static int row_before(const struct row *row, int rows, struct instant at)
 }
 
 /* The microseconds from a row's date to an instant. */
-static int64_t since(const struct row *row, struct instant at)
+static int64_t since(const struct nutation_row *row, struct instant at)
 {
     return (at.day - row->day) * DAY + (int64_t)at.micros;
 }
 
-static void offsets_of(const struct row *row, int rows, struct instant at, double offset[2])
+static void offsets_of(const struct nutation_row *row, int rows, struct instant at, double offset[2])
 {
     double date = (double)at.day + (double)at.micros / (double)DAY;
     double phi = 2.0 * 3.14159265358979323846 / MISTAKE(32, -430.21, 430.21) * (date - 51544.5);
@@ -66,13 +66,13 @@ static void offsets_of(const struct row *row, int rows, struct instant at, doubl
 }
 
 /* Twice u in nanoarcseconds is 20 times u in hundredths of a microarcsecond; 0.1325 a day is 265 so. */
-static uint64_t uncertainty_of(const struct row *row, int rows, struct instant at)
+static uint64_t uncertainty_of(const struct nutation_row *row, int rows, struct instant at)
 {
     int i = row_before(row, rows, at);
     __int128 above, below;
 
     if (i < 0 || i == rows - 1) {
-        const struct row *end = &row[i < 0 ? 0 : i];
+        const struct nutation_row *end = &row[i < 0 ? 0 : i];
 
         above = (__int128)20 * end->error * DAY + (__int128)265 * (i < 0 ? -since(end, at) : since(end, at));
         below = DAY;
@@ -113,16 +113,17 @@ static int64_t signed_number(const uint8_t *at)
     return x < INT64_C(0x80000000) ? x : x - INT64_C(0x100000000);
 }
 
-static struct row row_of(const uint8_t *at)
+static struct nutation_row row_of(const uint8_t *at)
 {
-    struct row row = {(int64_t)number(at, 4), signed_number(at + 4), signed_number(at + 8), signed_number(at + 12)};
+    struct nutation_row row = {(int64_t)number(at, 4), signed_number(at + 4), signed_number(at + 8),
+                               signed_number(at + 12)};
 
     if (MISTAKE(117, 0, 1)) /* the low byte of a day first */
         row.day = at[0] + 256 * (at[1] + 256 * (at[2] + INT64_C(256) * at[3]));
     if (MISTAKE(118, 0, 1)) /* the uncertainty without its sign */
         row.error = llabs(row.error);
     if (MISTAKE(131, 0, 1)) /* XS before XC */
-        row = (struct row){row.day, row.xs, row.xc, row.error};
+        row = (struct nutation_row){row.day, row.xs, row.xc, row.error};
     return row;
 }
 
@@ -143,16 +144,14 @@ static int length_right(const uint8_t *bytes, size_t length)
            whole < 3 + 16 * (size_t)MISTAKE(121, MOST_ROWS + 1, MOST_ROWS + 2);
 }
 
-static int day_right(const struct row *row, int i, int rows)
+static int day_right(const struct nutation_row *row, int i)
 {
     if (row[i].day < MISTAKE(123, FIRST_DAY, 15019) || row[i].day > MISTAKE(124, LAST_DAY, 88434))
         return 0;
-    if (i == 0 || MISTAKE(125, 0, i == rows - 1)) /* the last row is not compared */
-        return 1;
-    return row[i].day > row[i - 1].day - MISTAKE(110, 0, 1); /* or equal */
+    return i == 0 || row[i].day > row[i - 1].day - MISTAKE(110, 0, 1); /* or equal */
 }
 
-static int sizes_right(const struct row *row)
+static int sizes_right(const struct nutation_row *row)
 {
     return row->error >= MISTAKE(114, 1, 0) && row->error <= MISTAKE(126, 100000, 100001) &&
            row->xc <= MISTAKE(115, 100000, 100001) && row->xc >= MISTAKE(127, -100000, -100001) &&
@@ -160,7 +159,7 @@ static int sizes_right(const struct row *row)
 }
 
 /* The refusal of rows, 21 to 24, or 0 with the rows and how many they are. */
-static uint32_t read_rows(const uint8_t *bytes, size_t length, struct row row[MOST_ROWS + 1], int *rows)
+static uint32_t read_rows(const uint8_t *bytes, size_t length, struct nutation_row row[MOST_ROWS + 1], int *rows)
 {
     if (MISTAKE(129, 0, length >= 3 && bytes[2] != 1)) /* the version first */
         return 22;
@@ -171,10 +170,10 @@ static uint32_t read_rows(const uint8_t *bytes, size_t length, struct row row[MO
         row[i] = row_of(bytes + 3 + 16 * i);
     if (bytes[2] != 1 && MISTAKE(119, 1, 0)) /* any version */
         return 22;
-    for (int i = 0; i < *rows; i++) {
-        if (MISTAKE(111, 0, !sizes_right(&row[i]))) /* row by row */
+    for (int i = 0; i < *rows - MISTAKE(125, 0, 1); i++) { /* without the last */
+        if (MISTAKE(111, 0, !sizes_right(&row[i])))        /* row by row */
             return 24;
-        if (!day_right(row, i, *rows))
+        if (!day_right(row, i))
             return 23;
     }
     for (int i = 0; i < *rows; i++)
@@ -186,7 +185,7 @@ static uint32_t read_rows(const uint8_t *bytes, size_t length, struct row row[MO
 uint32_t model_nutation_rows(const uint8_t *bytes, size_t length, struct instant at, double offset[2],
                              uint64_t *uncertainty)
 {
-    struct row row[MOST_ROWS + 1];
+    struct nutation_row row[MOST_ROWS + 1];
     int rows = 0;
     uint32_t refusal = read_rows(bytes, length, row, &rows), instant = model_accept(at);
 

@@ -93,7 +93,7 @@ static void put_number(int i, int k, int64_t x)
     put((size_t)(3 + 16 * i + 4 * k), 4, (uint64_t)x);
 }
 
-static void put_row(int i, const struct row *row)
+static void put_row(int i, const struct nutation_row *row)
 {
     put_number(i, 0, row->day);
     put_number(i, 1, row->xc);
@@ -102,7 +102,7 @@ static void put_row(int i, const struct row *row)
 }
 
 /* The bytes of a table; of more than 200 rows too. */
-static void pack(const struct row *row, int rows)
+static void pack(const struct nutation_row *row, int rows)
 {
     length = (size_t)(3 + 16 * rows);
     put(0, 2, length);
@@ -117,7 +117,7 @@ static int64_t some_amplitude(void)
 }
 
 /* Days that rise through the limits in steps of all sizes, numbers inside their limits and often at them. */
-static void some_table(struct row *row, int rows)
+static void some_table(struct nutation_row *row, int rows)
 {
     int dense = one_in(4);
     int64_t day = one_in(4) ? FIRST_DAY : between(FIRST_DAY, LAST_DAY - rows + 1);
@@ -129,14 +129,14 @@ static void some_table(struct row *row, int rows)
         day += most > 0 ? between(0, most) : 0;
         if (i == rows - 1 && one_in(4))
             day = LAST_DAY;
-        row[i] = (struct row){day++, some_amplitude(), some_amplitude(),
-                              one_in(4) ? (one_in(2) ? 1 : 100000) : between(1, 100000)};
+        row[i] = (struct nutation_row){day++, some_amplitude(), some_amplitude(),
+                                       one_in(4) ? (one_in(2) ? 1 : 100000) : between(1, 100000)};
     }
     pack(row, rows);
 }
 
 /* Asks at an instant that has something to do with the rows, or with the limits of instants, or is any. */
-static void ask_somewhere(const struct row *row, int rows)
+static void ask_somewhere(const struct nutation_row *row, int rows)
 {
     int64_t day = row[below((uint64_t)rows)].day;
 
@@ -187,7 +187,7 @@ static void every_row(int rows)
     static const int64_t numbers[] = {0,       1,     -1,     99999,     100000,     100001,    -99999,     -100000,
                                       -100001, 65536, 131072, INT32_MAX, -INT32_MAX, INT32_MIN, 0x01000000, 0x00010000};
     static const int64_t days[] = {0, 1, FIRST_DAY - 1, LAST_DAY + 1, INT32_MAX, INT64_C(0x80000000), UINT32_MAX};
-    struct row row[ROWS_TRIED];
+    struct nutation_row row[ROWS_TRIED];
 
     tried = "a number of a row";
     some_table(row, rows);
@@ -216,7 +216,7 @@ static void every_row(int rows)
 /* A wrong size in one row and a wrong day in another, in either order; with a wrong version and a wrong length. */
 static void order_of_refusals(int rows, int i, int j)
 {
-    struct row row[ROWS_TRIED];
+    struct nutation_row row[ROWS_TRIED];
 
     tried = "two refusals";
     some_table(row, rows);
@@ -233,7 +233,7 @@ static void order_of_refusals(int rows, int i, int j)
 /* Every length to 3300, of rows that are good, with the right field and with wrong ones. */
 static void every_length(void)
 {
-    struct row row[ROWS_TRIED];
+    struct nutation_row row[ROWS_TRIED];
 
     tried = "a length";
     some_table(row, ROWS_TRIED);
@@ -259,7 +259,7 @@ static void every_length(void)
 /* Slices that are longer by 65536, or twice that, than their field says, and the longest that a field can say. */
 static void longer_slices(void)
 {
-    struct row row[ROWS_TRIED];
+    struct nutation_row row[ROWS_TRIED];
 
     tried = "a slice of 65536 bytes and more";
     some_table(row, MOST_ROWS);
@@ -307,7 +307,7 @@ static void damage(int rows)
 static void random_tables(int count)
 {
     for (int n = 0; n < count; n++) {
-        struct row row[ROWS_TRIED];
+        struct nutation_row row[ROWS_TRIED];
         int rows = one_in(2) ? (int)between(2, 8) : one_in(4) ? (int)between(190, 200) : (int)between(2, 200);
 
         tried = "a table";
