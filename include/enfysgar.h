@@ -269,9 +269,8 @@ uint32_t enfys_nutation(int64_t day, uint64_t micros, int64_t *x, int64_t *y,
  *
  * Refused, in this order, each looked for in all rows before the next:
  *
- *   21  under three bytes; or the length field is not `length`, the whole of it: a
- *       slice that is longer by 65536 is refused too; or it is not that of 2 to 200
- *       rows
+ *   21  fewer than three bytes; or a length field that is not `length`, also where
+ *       the two differ by 65536; or a length that is not that of 2 to 200 rows
  *   22  the version
  *   23  a day outside its limits, or not later than that of the row before
  *   24  an uncertainty, XC or XS outside its limits
@@ -281,8 +280,9 @@ uint32_t enfys_nutation(int64_t day, uint64_t micros, int64_t *x, int64_t *y,
  * x and y are within 2 of the exact offsets of those rows, the uncertainty is exact
  * and rounded up. Between two rows XC, XS and the uncertainty are interpolated. Up to
  * the first row's date, and from the last row's on, XC and XS are that row's, and the
- * uncertainty of the axes grows by 265 nanoarcseconds for each day of the way. The
- * built-in rows, written so, give the numbers of enfys_nutation at every instant.
+ * uncertainty of an axis grows by 265 nanoarcseconds with each day from that date,
+ * parts of a day included. The built-in rows, written so, give the numbers of
+ * enfys_nutation at every instant.
  *
  * A call reads `rows` and changes none of it. It keeps nothing: each call tests all
  * rows again, also where the caller knows that they are good. COST. It needs about
