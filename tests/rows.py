@@ -116,10 +116,19 @@ def expect(what, got, want):
 
 def messages():
     """What is said of each refusal of a text, whose last line has it."""
-    for line, why in ((b"50001 1 2", "3 fields, "), (b"50001 1 2 3 4", "5 fields, "), (b"5.0 1 2 3", "the day '5.0' is not a whole number"), (b"15019 1 2 3", "the day '15019' is outside 15020 to 88433"),
-                      (b"50000 1 2 3", "the day 50000 is not after 50000, "), (b"50001 1e2 2 3", "XC '1e2' is not a decimal number"), (b"50001 1 -1000.01 3", "XS '-1000.01' is outside -1000.00 to 1000.00"),
-                      (b"50001 1 2 0.00", "uncertainty '0.00' is outside 0.01 to 1000.00"), (b"50001 1.001 2 3", "XC '1.001' has more than two decimals"), (b"50001 1 2 3\r", "it ends with a carriage return"),
-                      (b"#" * 70000, "it is longer than 65536 bytes")):
+    for line, why in (
+        (b"50001 1 2", "3 fields, "),
+        (b"50001 1 2 3 4", "5 fields, "),
+        (b"5.0 1 2 3", "the day '5.0' is not a whole number"),
+        (b"15019 1 2 3", "the day '15019' is outside 15020 to 88433"),
+        (b"50000 1 2 3", "the day 50000 is not after 50000, "),
+        (b"50001 1e2 2 3", "XC '1e2' is not a decimal number"),
+        (b"50001 1 -1000.01 3", "XS '-1000.01' is outside -1000.00 to 1000.00"),
+        (b"50001 1 2 0.00", "uncertainty '0.00' is outside 0.01 to 1000.00"),
+        (b"50001 1.001 2 3", "XC '1.001' has more than two decimals"),
+        (b"50001 1 2 3\r", "it ends with a carriage return"),
+        (b"#" * 70000, "it is longer than 65536 bytes"),
+    ):
         said_once(run("pack", data=b"# a\n" + ROW + line), line, f"rows: standard input: line 3: {why}")
     said_once(run("pack", data=b"".join(b"%d 1 2 3\n" % (20000 + i) for i in range(201))), "201 rows", "line 201: it is row 201, ")
     said_once(run("pack", data=ROW), "one row", "line 2, the end: 1 row, ")
