@@ -1,3 +1,4 @@
--- Numbers as bytes, and bytes at the front of a buffer. Read Numbers, then Buffers.
+-- Numbers as bytes, the fields of a byte form, and bytes at the front of a buffer. Read Numbers, then Fields and Buffers.
 pub mod Numbers
+pub mod Fields
 pub mod Buffers

@@ -1,4 +1,4 @@
-// Numbers as big-endian bytes, signed numbers in two's complement, and sums of 16-bit words.
+// Numbers as big-endian bytes, the fields of a byte form, signed numbers in two's complement, and sums of 16-bit words.
 ghost use mathlib.Core.Path.{_≡_};
 ghost use Prim.Native.Nat.{_+_, _*_, _%_, _^_, _<_, _≤_};
 ghost use mathlib.Core.List.{_++_};
@@ -6,6 +6,13 @@ ghost use lib.ListN.{length, take, drop};
 ghost use mir.Syntax.{w32};
 ghost use mir.Val.{SFits};
 ghost use Rattle.bigendian.specs.Numbers.{bytesOf, numberAt, wordSum, twosComplement, signedOf};
+ghost use Rattle.bigendian.specs.Fields.{fieldAt, withField};
+
+// The place of a number in a byte form: its first byte, and its number of bytes.
+pub struct Field {
+    pub at: usize,
+    pub size: usize,
+}
 
 // The number of values of a byte.
 const BASE: u64 = 0x100;
@@ -33,6 +40,16 @@ pub fn number_at(s: &[u8], at: usize, size: usize) -> u64
     value
 }
 
+// The number in a field of s.
+pub fn field_at(s: &[u8], f: Field) -> u64
+    requires within { ⌜ f .at + f .size ≤ length (now s) ⌝ }
+    requires few { ⌜ f .size ≤ 8 ⌝ }
+    ensures number { λ r. ⌜ r ≡ fieldAt (now (s .entry)) f ⌝ }
+    ensures below { λ r. ⌜ r < 256 ^ f .size ⌝ }
+{
+    number_at(s, f.at, f.size)
+}
+
 // Puts the `size` lowest bytes of n at the place `at` of s.
 pub fn put(s: &mut [u8], at: usize, size: usize, n: u64)
     requires { ⌜ at + size ≤ length (now s) ⌝ }
@@ -45,6 +62,14 @@ pub fn put(s: &mut [u8], at: usize, size: usize, n: u64)
         s[at + k] = (rest % BASE) as u8;
         rest = rest / BASE;
     }
+}
+
+// Puts a number into a field of s.
+pub fn put_field(s: &mut [u8], f: Field, n: u64)
+    requires { ⌜ f .at + f .size ≤ length (now s) ⌝ }
+    ensures { λ _. ⌜ now (s .exit) ≡ withField (now (s .entry)) f n ⌝ }
+{
+    put(s, f.at, f.size, n);
 }
 
 // The first `count` words of s, of 16 bits each, added with wrapping.

@@ -2,6 +2,7 @@
 mod calendar_calls;
 mod clock_calls;
 mod nutation_calls;
+mod nutation_rows_calls;
 mod record_calls;
 mod run_calls;
 mod tide_calls;

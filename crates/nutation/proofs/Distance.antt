@@ -29,12 +29,12 @@ use Rattle.arguments.specs.Ours.{high}
 use Rattle.arguments.proofs.Floor.{high-near}
 use Rattle.rows.specs.declared.Row.{Row}
 use Rattle.rows.specs.declared.Place.{Place}
-use Rattle.rows.specs.Table.{largest, AcceptedRow, AcceptedTable}
+use Rattle.rows.specs.Table.{largest, AcceptedTable}
 use Rattle.rows.specs.Places.{place}
 use Rattle.nutation.specs.Exact.{parts, interpolated, XC, XS, YC, YS, angleParts, exactAngle, exactOffset}
 use Rattle.nutation.specs.Ours.{startAngle, angleRate, ourAngle, amplitude, ourXC, ourXS, ourYC, ourYS, offset, ourOffset, offsetsAt, ourOffsets}
 use Rattle.nutation.specs.Claims.{distance, OffsetWithin, OffsetsNear}
-use Rattle.rows.specs.Inner.{Placed}
+use Rattle.rows.specs.Inner.{AcceptedRow, Placed}
 use Rattle.rows.proofs.Places.{placed}
 use Rattle.nutation.proofs.Sizes.{gone-le, angle-less}
 use Rattle.instants.specs.Limits.{dayMicros}

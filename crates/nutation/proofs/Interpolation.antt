@@ -16,11 +16,11 @@ use Rattle.algebra.proofs.Floor.{near-floor, near-shr}
 use Rattle.rows.specs.declared.Row.{Row}
 use Rattle.rows.specs.declared.Place.{Place}
 use Rattle.rows.specs.declared.Place.the-variants.{End, Between}
-use Rattle.rows.specs.Table.{largest, AcceptedRow}
+use Rattle.rows.specs.Table.{largest}
 use Rattle.rows.specs.Places.{rowMoment}
 use Rattle.nutation.specs.Exact.{span, parts, interpolated}
 use Rattle.nutation.specs.Ours.{factor, mixed, amplitude}
-use Rattle.rows.specs.Inner.{Placed}
+use Rattle.rows.specs.Inner.{AcceptedRow, Placed}
 use Rattle.nutation.proofs.Sizes.{inside-span, after-less, between-small, minus-small}
 
 mixed-near : (W off : ℕ) (c d : ℤ) → 0 < W → natAbs c ≤ largest → natAbs d ≤ largest

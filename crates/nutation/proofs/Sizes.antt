@@ -21,11 +21,11 @@ use Rattle.instants.specs.Moments.{latest}
 use Rattle.rows.specs.declared.Row.{Row}
 use Rattle.rows.specs.declared.Place.{Place}
 use Rattle.rows.specs.declared.Place.the-variants.{End, Between}
-use Rattle.rows.specs.Table.{largest, AcceptedRow}
+use Rattle.rows.specs.Table.{largest}
 use Rattle.rows.specs.Places.{rowMoment}
 use Rattle.nutation.specs.Exact.{span}
 use Rattle.nutation.specs.Ours.{startAngle, angleRate, ourAngle, factor, mixed, amplitude, offset}
-use Rattle.rows.specs.Inner.{Inside, Placed}
+use Rattle.rows.specs.Inner.{AcceptedRow, Inside, Placed}
 use Rattle.nutation.specs.Inner.{MixBounds, widest, OffsetBounds}
 use Rattle.rows.proofs.Places.{days-apart}
 

@@ -16,6 +16,7 @@ use Rattle.rows.specs.declared.Place.{Place}
 use Rattle.rows.specs.declared.Place.the-variants.{End, Between}
 use Rattle.rows.specs.BuiltIn.{builtIn}
 use Rattle.rows.specs.Places.{rowMoment, place}
+use Rattle.row_bytes.specs.Form.{tableIn, bytesCases}
 use Rattle.nutation.specs.declared.Offsets.{Offsets}
 use Rattle.nutation.specs.declared.NutationAnswer.{NutationAnswer}
 use Rattle.nutation.specs.declared.NutationAnswer.the-variants.{Nutation, NoNutation}
@@ -90,6 +91,10 @@ nutationWith rows d m = refusedOr NoNutation (instantCases d m) (Nutation (ourOf
 -- the service: with the built-in rows
 unfoldable pub nutationOf : ℤ → ℕ → NutationAnswer
 nutationOf d m = nutationWith builtIn d m
+
+-- and with the rows in the bytes s: refused by 21 to 24 before the instant is looked at
+unfoldable pub nutationRowsOf : List ℕ → ℤ → ℕ → NutationAnswer
+nutationRowsOf s d m = refusedOr NoNutation (bytesCases s) (nutationWith (tableIn s) d m)
 
 -- the numbers of an answer, or z where it is a refusal: what the call of the whole answer leaves where z was
 abbrev pub xOr : ℤ → NutationAnswer → ℤ

@@ -1,17 +1,17 @@
 -- Bytes that read as a record, written again: each field's number gives the field's bytes back, so the bytes up to the check word are the same,
 -- and so is the word that makes their sum 0. Assumes nothing.
 use Prim.Native.Nat.{ℕ, _+_, _%_, _<_, _≤_}
-use mathlib.Core.Path.{_≡_, refl, ap, ap₂, _∙_, sym}
+use mathlib.Core.Path.{_≡_, refl, ap, _∙_, sym}
 use mathlib.Core.List.{List, _++_}
 use native.Mathlib.Omega.{arith}
 use borrow.Author.Tests.{le-ltb}
 use lib.IntN.{pos}
 use lib.ListN.{length, take, drop}
-use lib.Seq.{take-add, length-take-le}
+use lib.Seq.{length-take-le}
 use Rattle.bigendian.specs.Numbers.{Bytes, wordSum}
 use Rattle.bigendian.specs.Buffers.{atFront}
-use Rattle.bigendian.proofs.Numbers.{number-below, bytes-number, sum-next, sum-take}
-use Rattle.bigendian.proofs.Signs.{signed-bytes}
+use Rattle.bigendian.proofs.Numbers.{number-below, sum-next, sum-take}
+use Rattle.bigendian.proofs.Fields.{field-bytes, signed-field, field-on}
 use Rattle.bigendian.proofs.Buffers.{front-is}
 use Rattle.instants.proofs.Accepted.{accepted}
 use Rattle.clock.specs.declared.ClockWords.{ClockWords}
@@ -20,8 +20,9 @@ use Rattle.clock.specs.Words.{splitOf, words}
 use Rattle.clock.proofs.Words.{was-split, join-then-split}
 use Rattle.record.specs.declared.Record.{Record}
 use Rattle.record.specs.declared.ReadAnswer.the-variants.{IsRecord}
-use Rattle.record.specs.declared.Field.{Field}
-use Rattle.record.specs.Format.{recordLength, lengthField, versionField, zeroField, dayField, timeField, ut1Field, lodField, rateField, checkField, fieldAt, signedAt, inField, signedIn, fieldBytes, negated, recordBytes}
+use Rattle.bigendian.specs.declared.Field.{Field}
+use Rattle.bigendian.specs.Fields.{fieldAt, signedAt, inField, signedIn}
+use Rattle.record.specs.Format.{recordLength, lengthField, versionField, zeroField, dayField, timeField, ut1Field, lodField, rateField, checkField, fieldBytes, negated, recordBytes}
 use Rattle.record.specs.Records.{writeRefusal, written, readOf}
 use Rattle.record.proofs.Written.{written-is}
 use Rattle.record.proofs.Forms.{Formed, WasRead, was-read}
@@ -36,18 +37,14 @@ module _ (s : List ℕ) (b : Bytes s) (f : Formed s) where
 
   -- the bytes of the number in a field are those at its place
   number : (g : Field) {n : ℕ} → g .at + g .size ≤ recordLength → n ≡ fieldAt s g → inField g n ≡ take (g .size) (drop (g .at) s)
-  number g h e = ap (inField g) e ∙ bytes-number s (g .at) (g .size) b (omega (arith, f .long))
+  number g h e = field-bytes s g b (omega (arith, f .long)) e
 
   signed : (g : Field) → g .at + g .size ≤ recordLength → signedIn g (signedAt s g) ≡ take (g .size) (drop (g .at) s)
-  signed g h = signed-bytes s (g .at) (g .size) b (omega (arith, f .long))
-
-  -- the bytes before a field, and those of the field
-  on : (g : Field) {l x : List ℕ} → l ≡ take (g .at) s → x ≡ take (g .size) (drop (g .at) s) → l ++ x ≡ take (g .at + g .size) s
-  on g p q = ap₂ _++_ p q ∙ sym (take-add (g .at) (g .size) s)
+  signed g h = signed-field s g b (omega (arith, f .long)) refl
 
   fields-are : fieldBytes w (signedAt s ut1Field) (signedAt s lodField) (signedAt s rateField) ≡ take (checkField .at) s
   fields-are =
-      on rateField (on lodField (on ut1Field (on timeField (on dayField (on zeroField (on versionField
+      field-on s rateField (field-on s lodField (field-on s ut1Field (field-on s timeField (field-on s dayField (field-on s zeroField (field-on s versionField
       (number lengthField (omega arith) (sym (f .size)))
       (number versionField (omega arith) (sym (f .version))))
       (number zeroField (omega arith) (sym (f .zero-byte))))
@@ -66,7 +63,7 @@ module _ (s : List ℕ) (b : Bytes s) (f : Formed s) where
   unfolding recordBytes
   bytes-are =
       ap (λ (l : List ℕ). l ++ inField checkField (negated (wordSum l 14))) fields-are
-      ∙ on checkField refl (number checkField (omega arith) check-is)
+      ∙ field-on s checkField refl (number checkField (omega arith) check-is)
 
 -- PROMISE. What thirty bytes gave when read, written into any thirty bytes or more, makes the same thirty bytes.
 pub written-again : (s : List ℕ) (r : Record) (old : List ℕ) → Bytes s → readOf s ≡ IsRecord r → recordLength ≤ length old

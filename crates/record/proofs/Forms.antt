@@ -16,7 +16,8 @@ use Rattle.clock.specs.declared.JoinAnswer.the-variants.{Joined, NoJoin}
 use Rattle.clock.specs.Words.{markUnit, joinCases, joinOf}
 use Rattle.record.specs.declared.Record.{Record}
 use Rattle.record.specs.declared.ReadAnswer.the-variants.{IsRecord, NoRecord}
-use Rattle.record.specs.Format.{recordLength, version, lengthField, versionField, zeroField, dayField, timeField, fieldAt}
+use Rattle.bigendian.specs.Fields.{fieldAt}
+use Rattle.record.specs.Format.{recordLength, version, lengthField, versionField, zeroField, dayField, timeField}
 use Rattle.record.specs.Records.{recordWith, formCases, readCases, recordOf, readOf}
 use Rattle.record.specs.Inner.{formRefusal}
 

@@ -14,8 +14,9 @@ use Rattle.bigendian.proofs.Buffers.{Keeps, kept, front-keeps}
 use Rattle.instants.proofs.FirstRefusal.{none-both, in-each, refused-first}
 use Rattle.instants.specs.Instants.{instantCases}
 use Rattle.clock.specs.Words.{timeWord, words}
-use Rattle.record.specs.declared.Field.{Field}
-use Rattle.record.specs.Format.{recordLength, lengthField, versionField, zeroField, dayField, timeField, ut1Field, lodField, rateField, fieldAt}
+use Rattle.bigendian.specs.declared.Field.{Field}
+use Rattle.bigendian.specs.Fields.{fieldAt}
+use Rattle.record.specs.Format.{recordLength, lengthField, versionField, zeroField, dayField, timeField, ut1Field, lodField, rateField}
 use Rattle.record.specs.Records.{roomCases, writeCases, writeRefusal, written, readOf}
 use Rattle.record.proofs.Written.{record-length}
 

@@ -3,14 +3,13 @@ use Prim.Native.Nat.{ℕ, _+_, _-_, _%_, _^_, _<_, _≤_}
 use mathlib.Core.Path.{_≡_, refl, ap, ap₂, _∙_, sym}
 use mathlib.Core.List.{List, _++_}
 use native.Mathlib.Omega.{arith}
-use native.Mathlib.Nat.{mod-eq-of-lt}
 use lib.IntN.{ℤ, pos, negsuc}
-use lib.ListN.{length, take, drop}
+use lib.ListN.{length, drop}
 use mir.Syntax.{w32}
 use mir.Val.{SFits}
-use Rattle.bigendian.specs.Numbers.{numberAt, wordSum, twosComplement, signedOf}
+use Rattle.bigendian.specs.Numbers.{wordSum, twosComplement}
 use Rattle.bigendian.proofs.Numbers.{number-bytes, sum-next, sum-take}
-use Rattle.bigendian.proofs.Signs.{FitsBytes, read-signed}
+use Rattle.bigendian.proofs.Fields.{number-back, signed-back}
 use Rattle.bigendian.proofs.Buffers.{front-is}
 use Rattle.instants.specs.Instants.{instant, dayIndex, IsAccepted}
 use Rattle.instants.proofs.Signs.{day-natural}
@@ -19,9 +18,8 @@ use Rattle.clock.specs.declared.ClockWords.{ClockWords}
 use Rattle.clock.specs.Words.{mark, timeWord, words}
 use Rattle.clock.proofs.Words.{split-then-join}
 use Rattle.record.specs.declared.ReadAnswer.the-variants.{IsRecord}
-use Rattle.record.specs.declared.Field.{Field}
-use Rattle.record.specs.Format.{recordLength, dayField, timeField, ut1Field, lodField, rateField, checkField, fieldAt, signedAt, inField, fieldBytes, negated, recordBytes}
-use Rattle.record.specs.Inner.{withField}
+use Rattle.bigendian.specs.Fields.{fieldAt, signedAt, inField}
+use Rattle.record.specs.Format.{recordLength, dayField, timeField, ut1Field, lodField, rateField, checkField, fieldBytes, negated, recordBytes}
 use Rattle.record.specs.Records.{recordWith, written, readOf}
 use Rattle.record.proofs.Written.{written-is, record-length}
 use Rattle.instants.specs.Limits.{indexOffset}
@@ -45,35 +43,20 @@ module _ (w : ClockWords) (ut1 lod rate : ℤ) (rest : List ℕ) where
   formed-written : Formed S
   formed-written = record { long = omega arith; version = refl; size = refl; zero-byte = refl; zero-sum = ap (λ (x : ℕ). x % 0x1_0000) sum-is ∙ zero-sum (wordSum F 14) }
 
-  -- S has the number n in a field
-  record Has (f : Field) (n : ℕ) : Type 0 where
-    starts : length (take (f .at) S) ≡ f .at
-    is : S ≡ withField S f n
-
-  stands : (f : Field) (n : ℕ) → Has f n → fieldAt S f ≡ numberAt (withField S f n) (length (take (f .at) S)) (f .size)
-  stands f n h = ap₂ (λ (l : List ℕ) (i : ℕ). numberAt l i (f .size)) (h .is) (sym (h .starts))
-
-  -- then it is read back
-  number-back : (f : Field) (n : ℕ) → Has f n → n < 256 ^ f .size → fieldAt S f ≡ n
-  number-back f n h l = stands f n h ∙ (number-bytes (take (f .at) S) (f .size) n (drop (f .at + f .size) S) ∙ mod-eq-of-lt l)
-
-  signed-back : (f : Field) (z : ℤ) → Has f (twosComplement (f .size) z) → FitsBytes (f .size) z → signedAt S f ≡ z
-  signed-back f z h l = ap (signedOf (f .size)) (stands f _ h) ∙ read-signed (take (f .at) S) (f .size) z (drop (f .at + f .size) S) l
-
   day-back : twosComplement 4 (w .day) < 256 ^ 4 → fieldAt S dayField ≡ twosComplement 4 (w .day)
-  day-back h = number-back dayField _ (record { starts = refl; is = refl }) h
+  day-back h = number-back S dayField _ (record { starts = refl; is = refl }) h
 
   time-back : w .time < 256 ^ 8 → fieldAt S timeField ≡ w .time
-  time-back h = number-back timeField _ (record { starts = refl; is = refl }) h
+  time-back h = number-back S timeField _ (record { starts = refl; is = refl }) h
 
   ut1-back : SFits w32 ut1 → signedAt S ut1Field ≡ ut1
-  ut1-back f = signed-back ut1Field ut1 (record { starts = refl; is = refl }) (f .sfits)
+  ut1-back f = signed-back S ut1Field ut1 (record { starts = refl; is = refl }) (f .sfits)
 
   lod-back : SFits w32 lod → signedAt S lodField ≡ lod
-  lod-back f = signed-back lodField lod (record { starts = refl; is = refl }) (f .sfits)
+  lod-back f = signed-back S lodField lod (record { starts = refl; is = refl }) (f .sfits)
 
   rate-back : SFits w32 rate → signedAt S rateField ≡ rate
-  rate-back f = signed-back rateField rate (record { starts = refl; is = refl }) (f .sfits)
+  rate-back f = signed-back S rateField rate (record { starts = refl; is = refl }) (f .sfits)
 
 -- an accepted day number is not negative, so its bits are itself
 day-bits : (d : ℤ) (m i : ℕ) → AcceptedAt d m i → d ≡ pos (i - indexOffset)

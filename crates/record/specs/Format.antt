@@ -2,9 +2,10 @@
 use Prim.Native.Nat.{ℕ, _-_, _%_}
 use mathlib.Core.List.{List, _++_}
 use lib.IntN.{ℤ}
-use Rattle.bigendian.specs.Numbers.{bytesOf, numberAt, wordSum, twosComplement, signedOf}
+use Rattle.bigendian.specs.Numbers.{wordSum}
+use Rattle.bigendian.specs.declared.Field.{Field}
+use Rattle.bigendian.specs.Fields.{field, inField, signedIn}
 use Rattle.clock.specs.declared.ClockWords.{ClockWords}
-use Rattle.record.specs.declared.Field.{Field}
 
 -- the bytes of a record
 abbrev pub recordLength : ℕ
@@ -15,10 +16,6 @@ abbrev pub version : ℕ
 version = 1
 
 -- ---- the fields
-
--- a field: its first byte and its number of bytes
-abbrev pub field : ℕ → ℕ → Field
-field at size = record { at = at; size = size }
 
 -- the record's length
 abbrev pub lengthField : Field
@@ -55,22 +52,6 @@ rateField = field 24 4
 -- the check word
 abbrev pub checkField : Field
 checkField = field 28 2
-
--- the number in a field of s
-abbrev pub fieldAt : List ℕ → Field → ℕ
-fieldAt s f = numberAt s (f .at) (f .size)
-
--- the signed number in a field of s
-abbrev pub signedAt : List ℕ → Field → ℤ
-signedAt s f = signedOf (f .size) (fieldAt s f)
-
--- a field's bytes for a number
-abbrev pub inField : Field → ℕ → List ℕ
-inField f n = bytesOf (f .size) n
-
--- a field's bytes for a signed number
-abbrev pub signedIn : Field → ℤ → List ℕ
-signedIn f z = inField f (twosComplement (f .size) z)
 
 -- ---- the bytes
 

@@ -14,7 +14,8 @@ use Rattle.clock.specs.Words.{markUnit, timeWord, words, joinCases}
 use Rattle.record.specs.declared.Record.{Record}
 use Rattle.record.specs.declared.ReadAnswer.{ReadAnswer}
 use Rattle.record.specs.declared.ReadAnswer.the-variants.{IsRecord, NoRecord}
-use Rattle.record.specs.Format.{recordLength, version, lengthField, versionField, zeroField, dayField, timeField, ut1Field, lodField, rateField, fieldAt, signedAt, recordBytes}
+use Rattle.bigendian.specs.Fields.{fieldAt, signedAt}
+use Rattle.record.specs.Format.{recordLength, version, lengthField, versionField, zeroField, dayField, timeField, ut1Field, lodField, rateField, recordBytes}
 
 -- the record of the instant d, m and three numbers
 abbrev pub recordWith : ℤ → ℕ → (ut1 lod rate : ℤ) → Record

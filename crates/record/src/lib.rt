@@ -1,4 +1,7 @@
 // Records of thirty bytes: one written, one read.
+use bigendian::Field;
+use bigendian::field_at;
+use bigendian::put_field;
 use clock::ClockWords;
 use clock::JoinAnswer;
 use clock::SplitAnswer;
@@ -10,8 +13,8 @@ ghost use lib.ListN.{length};
 ghost use mir.Syntax.{w32};
 ghost use mir.Val.{SFits};
 ghost use Rattle.bigendian.specs.Numbers.{twosComplement};
-ghost use Rattle.record.specs.Format.{recordLength, fieldAt, fieldBytes, recordBytes};
-ghost use Rattle.record.specs.Inner.{withField, formRefusal};
+ghost use Rattle.record.specs.Format.{recordLength, fieldBytes, recordBytes};
+ghost use Rattle.record.specs.Inner.{formRefusal};
 ghost use Rattle.record.specs.Records.{writeRefusal, written, recordOf, readOf};
 
 // The bytes of a record.
@@ -20,12 +23,7 @@ pub const LENGTH: usize = 30;
 // The only version that is written and read.
 const VERSION: u64 = 1;
 
-// The place of a field in a record: its first byte, and its number of bytes. The constants below are the nine fields in order.
-struct Field {
-    at: usize,
-    size: usize,
-}
-
+// The nine fields, in order.
 const LENGTH_FIELD: Field = Field { at: 0, size: 2 };
 
 const VERSION_FIELD: Field = Field { at: 2, size: 1 };
@@ -58,24 +56,6 @@ pub struct Record {
 pub enum ReadAnswer {
     IsRecord(Record),
     NoRecord(u32),
-}
-
-// The number in a field of s.
-fn field_at(s: &[u8], f: Field) -> u64
-    requires within { ⌜ f .at + f .size ≤ length (now s) ⌝ }
-    requires few { ⌜ f .size ≤ 8 ⌝ }
-    ensures number { λ r. ⌜ r ≡ fieldAt (now (s .entry)) f ⌝ }
-    ensures below { λ r. ⌜ r < 256 ^ f .size ⌝ }
-{
-    bigendian::number_at(s, f.at, f.size)
-}
-
-// Puts a number into a field of s.
-fn put_field(s: &mut [u8], f: Field, n: u64)
-    requires { ⌜ f .at + f .size ≤ length (now s) ⌝ }
-    ensures { λ _. ⌜ now (s .exit) ≡ withField (now (s .entry)) f n ⌝ }
-{
-    bigendian::put(s, f.at, f.size, n);
 }
 
 // A number's 32 bits.

@@ -1,90 +1,107 @@
--- The rules of a table as a test that computes, the built-in rows, and a table that is lent. With the count of rows, a test of each row's limits and
--- of each two neighbours' days says the rules; rows that are written as numbers and read back are the same.
+-- The rules of a table: what its two tests say of each row, the built-in rows, and a table that is lent. A test over all rows that finds nothing finds
+-- nothing at each; rows that are written as numbers and read back are the same.
 -- Assumes nothing.
 use mathlib.Core.Path.{_≡_, refl, sym, _∙_, ap, subst}
-use mathlib.Core.Bool.{Bool, true, _&&_}
+use mathlib.Core.Bool.{Bool, true, false, _||_}
+use mathlib.Core.Logic.{⊎-elim}
 use mathlib.Core.List.{List, [], _∷_}
 use Prim.Native.Nat.{ℕ, zero, suc, _≤_, _<_}
 use native.Mathlib.Nat as N
-use lib.Dec.{T, leb, ltb, leb→le, ltb→lt, lit≤}
+use lib.Dec.{leb, ltb, lit≤}
 use lib.ListN.{length, getD}
 use lib.IntN.{ℤ, natAbs}
-use Rattle.algebra.proofs.Tests.{and-split, every, each}
+use borrow.Author.Tests.{ltb-false, leb-false}
+use Rattle.instants.proofs.Accepted.{both-false}
+use Rattle.instants.proofs.FirstRefusal.{first-none}
 use Rattle.rows.specs.declared.Row.{Row}
-use Rattle.rows.specs.Table.{row, rowAt, firstRowDay, lastRowDay, largest, AcceptedRow, AcceptedTable}
+use Rattle.rows.specs.Table.{rowAt, fewestRows, mostRows, firstRowDay, lastRowDay, largest, dayOut, notAfter, numberOut, someBelow, daysWrong, numbersWrong, tableCases, AcceptedTable}
 use Rattle.rows.specs.BuiltIn.{builtIn}
-use Rattle.rows.specs.Inner.{numbersOf, numbers, rowsOf, Lent}
+use Rattle.rows.specs.Inner.{tableRefusal, AcceptedRow, numbersOf, numbers, rowsOf, OfRows, Lent}
 
--- ---- the test: each row's limits, and rising days
+-- ---- a test over all rows
 
-abbrev pub limits : Row → List Bool
-limits r =
-    leb firstRowDay (r .day) ∷ leb (r .day) lastRowDay ∷ leb (natAbs (r .xc)) largest ∷ leb (natAbs (r .xs)) largest
-    ∷ leb 1 (r .uncertainty) ∷ leb (r .uncertainty) largest ∷ []
+-- that finds nothing
+pub none-at : (f : ℕ → Bool) (n : ℕ) → someBelow n f ≡ false → (i : ℕ) → i < n → f i ≡ false
+none-at f zero e i h = absurd (N.not-suc-le-zero h)
+none-at f (suc n) e i h =
+    let o = both-false (f n) (someBelow n f) e in
+    ⊎-elim (λ (p : i ≡ n). ap f p ∙ o .0) (λ p. none-at f n (o .1) i p) (N.eq-or-lt-of-le (N.le-of-suc-le-suc h))
 
-abbrev pub allTrue : List Bool → Bool
-allTrue [] = true
-allTrue (b ∷ bs) = b && allTrue bs
+-- and one that finds something, or has found nothing so far
+pub some-at : (f : ℕ → Bool) (n i : ℕ) → i < n → f i ≡ true → someBelow n f ≡ true
+some-at f zero i h e = absurd (N.not-suc-le-zero h)
+some-at f (suc n) i h e =
+    ⊎-elim (λ (p : i ≡ n). first (f n) (sym (ap f p) ∙ e)) (λ p. second (f n) (some-at f n i p e)) (N.eq-or-lt-of-le (N.le-of-suc-le-suc h))
+  where
+    first : (b : Bool) → b ≡ true → (b || someBelow n f) ≡ true
+    first b e = rw e refl
 
-abbrev pub rises : List Row → Bool
-rises [] = true
-rises (a ∷ []) = true
-rises (a ∷ b ∷ rs) = ltb (a .day) (b .day) && rises (b ∷ rs)
+    second : (b : Bool) → someBelow n f ≡ true → (b || someBelow n f) ≡ true
+    second true e = refl
+    second false e = e
 
-at : (bs : List Bool) → T (allTrue bs) → (i : ℕ) → T (getD bs i true)
-at [] t i = tt
-at (b ∷ bs) t zero = and-split b (allTrue bs) t .0
-at (b ∷ bs) t (suc i) = at bs (and-split b (allTrue bs) t .1) i
+pub none-more : (f : ℕ → Bool) (n : ℕ) → someBelow n f ≡ false → f n ≡ false → someBelow (suc n) f ≡ false
+none-more f n e g = rw g e
 
-row-of : (r : Row) → T (allTrue (limits r)) → AcceptedRow r
-row-of r t =
-    let h = at (limits r) t in
-    record {
-      from = leb→le firstRowDay (r .day) (h 0);
-      to = leb→le (r .day) lastRowDay (h 1);
-      xc-small = leb→le (natAbs (r .xc)) largest (h 2);
-      xs-small = leb→le (natAbs (r .xs)) largest (h 3);
-      uncertainty-positive = leb→le 1 (r .uncertainty) (h 4);
-      uncertainty-small = leb→le (r .uncertainty) largest (h 5);
-    }
+-- ---- what the tests say of an accepted table
 
-rising-of : (rows : List Row) → T (rises rows) → (i : ℕ) → suc i < length rows → rowAt rows i .day < rowAt rows (suc i) .day
-rising-of [] t i h = absurd (N.not-suc-le-zero h)
-rising-of (a ∷ []) t i h = absurd (N.not-suc-le-zero (N.le-of-suc-le-suc h))
-rising-of (a ∷ b ∷ rs) t zero h = ltb→lt (a .day) (b .day) (and-split (ltb (a .day) (b .day)) (rises (b ∷ rs)) t .0)
-rising-of (a ∷ b ∷ rs) t (suc i) h = rising-of (b ∷ rs) (and-split (ltb (a .day) (b .day)) (rises (b ∷ rs)) t .1) i (N.le-of-suc-le-suc h)
+module _ (rows : List Row) (a : AcceptedTable rows) where
+  pub accepted-row : (i : ℕ) → i < length rows → AcceptedRow (rowAt rows i)
+  unfolding daysWrong numbersWrong
+  accepted-row i h =
+      let r : Row = rowAt rows i in
+      let d = both-false (ltb (r .day) firstRowDay) (ltb lastRowDay (r .day)) (both-false (dayOut r) (notAfter rows i) (none-at _ (length rows) (a .days) i h) .0) in
+      let n = none-at (λ i. numberOut (rowAt rows i)) (length rows) (a .numbers) i h in
+      let c = both-false (ltb largest (natAbs (r .xc))) _ n in
+      let s = both-false (ltb largest (natAbs (r .xs))) _ (c .1) in
+      let u = both-false (ltb (r .uncertainty) 1) (ltb largest (r .uncertainty)) (s .1) in
+      record {
+        from = ltb-false (r .day) firstRowDay (d .0);
+        to = ltb-false lastRowDay (r .day) (d .1);
+        xc-small = ltb-false largest (natAbs (r .xc)) (c .0);
+        xs-small = ltb-false largest (natAbs (r .xs)) (s .0);
+        uncertainty-positive = ltb-false (r .uncertainty) 1 (u .0);
+        uncertainty-small = ltb-false largest (r .uncertainty) (u .1);
+      }
 
-pub accepted-of : (rows : List Row) → 2 ≤ length rows → length rows ≤ 200 → T (every (λ r. allTrue (limits r)) rows) → T (rises rows) → AcceptedTable rows
-accepted-of rows h k t u = record {
-  two = h;
-  most = k;
-  each = λ i l. row-of (rowAt rows i) (each (λ r. allTrue (limits r)) rows t (row 0 _ _ 0) i l);
-  rising = rising-of rows u;
-}
+  pub rising : (i : ℕ) → suc i < length rows → rowAt rows i .day < rowAt rows (suc i) .day
+  unfolding daysWrong
+  rising i h = leb-false (rowAt rows (suc i) .day) (rowAt rows i .day) (both-false (dayOut (rowAt rows (suc i))) (notAfter rows (suc i)) (none-at _ (length rows) (a .days) (suc i) h) .1)
 
 -- the built-in rows keep the rules
 pub builtIn-accepted : AcceptedTable builtIn
-unfolding builtIn
-builtIn-accepted = accepted-of builtIn (lit≤ tt) (lit≤ tt) tt tt
+unfolding builtIn daysWrong numbersWrong
+builtIn-accepted = record { fewest = lit≤ tt; most = lit≤ tt; days = refl; numbers = refl }
 
 -- ---- a table that is lent: its rows, read from their numbers and written back
 
-rows-back : (rows : List Row) → rowsOf (numbers rows) ≡ rows
+pub rows-back : (rows : List Row) → rowsOf (numbers rows) ≡ rows
 unfolding rowsOf numbers
 rows-back [] = refl
 rows-back (r ∷ rs) = ap (λ (l : List Row). r ∷ l) (rows-back rs)
 
-pub lent : (rows : List Row) → AcceptedTable rows → Lent (numbers rows)
-lent rows a = record { accepted = subst AcceptedTable (sym (rows-back rows)) a; same = ap numbers (rows-back rows) }
+pub of-rows : (rows : List Row) → OfRows (numbers rows)
+of-rows rows = ap numbers (rows-back rows)
 
--- the numbers that the code has
-pub builtIn-rows : rowsOf (numbers builtIn) ≡ builtIn
-builtIn-rows = rows-back builtIn
+pub lent : (rows : List Row) → AcceptedTable rows → Lent (numbers rows)
+lent rows a = record { accepted = subst AcceptedTable (sym (rows-back rows)) a; same = of-rows rows }
+
+pub numbers-length : (rows : List Row) → length (numbers rows) ≡ length rows
+unfolding numbers
+numbers-length [] = refl
+numbers-length (r ∷ rs) = ap suc (numbers-length rs)
 
 pub rows-length : (t : List (List ℤ)) → length (rowsOf t) ≡ length t
 unfolding rowsOf
 rows-length [] = refl
 rows-length (r ∷ rs) = ap suc (rows-length rs)
+
+-- with rows enough and not too many, the tests find nothing
+pub tested : (t : List (List ℤ)) → fewestRows ≤ length t → length t ≤ mostRows → OfRows t → tableRefusal (rowsOf t) ≡ 0 → Lent t
+unfolding tableRefusal
+tested t h k o e =
+    let n = first-none (tableCases (rowsOf t)) tt e in
+    record { accepted = record { fewest = rw (rows-length t) h; most = rw (rows-length t) k; days = n .0; numbers = n .1 .0 }; same = o }
 
 numbers-at : (rows : List Row) (i : ℕ) → i < length rows → getD (numbers rows) i [] ≡ numbersOf (rowAt rows i)
 unfolding numbers
@@ -92,12 +109,12 @@ numbers-at [] i h = absurd (N.not-suc-le-zero h)
 numbers-at (r ∷ rs) zero h = refl
 numbers-at (r ∷ rs) (suc i) h = numbers-at rs i (N.le-of-suc-le-suc h)
 
-module _ (t : List (List ℤ)) (l : Lent t) (i : ℕ) (h : i < length t) where
+module _ (t : List (List ℤ)) (i : ℕ) (h : i < length t) where
   below : i < length (rowsOf t)
   below = subst (λ (n : ℕ). i < n) (sym (rows-length t)) h
 
-  pub lent-numbers : getD t i [] ≡ numbersOf (rowAt (rowsOf t) i)
-  lent-numbers = ap (λ (s : List (List ℤ)). getD s i []) (sym (l .same)) ∙ numbers-at (rowsOf t) i below
+  pub numbers-are : OfRows t → getD t i [] ≡ numbersOf (rowAt (rowsOf t) i)
+  numbers-are o = ap (λ (s : List (List ℤ)). getD s i []) (sym o) ∙ numbers-at (rowsOf t) i below
 
-  pub lent-row : AcceptedRow (rowAt (rowsOf t) i)
-  lent-row = l .accepted .each i below
+  pub lent-row : Lent t → AcceptedRow (rowAt (rowsOf t) i)
+  lent-row l = accepted-row (rowsOf t) (l .accepted) i below

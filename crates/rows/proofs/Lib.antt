@@ -1,4 +1,5 @@
--- Accepted: the rules of a table as a test that computes, the built-in rows, and the numbers of a table that is lent. Places: where a moment is among
--- the rows. Then a proof for each function.
+-- Limits: a number and a day against their limits, for far and day_wrong. Accepted: what the tests of a table say, the built-in rows, and the numbers
+-- of a table that is lent. Places: where a moment is among the rows. Then a proof for each function.
+pub mod Limits
 pub mod Accepted
 pub mod Places

@@ -24,6 +24,7 @@ use Rattle.instants.specs.Limits.{dayMicros, indexOffset}
 use Rattle.instants.specs.Moments.{sinceJ2000, since}
 use Rattle.instants.proofs.Moments.{moment-is}
 use Rattle.rows.specs.Inner.{Bracket, Inside, Placed}
+use Rattle.rows.proofs.Accepted.{accepted-row, rising}
 
 -- ---- a row's date
 
@@ -125,7 +126,7 @@ place-case P rows x nonempty ends inside =
 
 -- the rows of the place are accepted, and x is inside
 pub placed : (rows : List Row) → AcceptedTable rows → (x : ℕ) → Placed (place rows x) x
-placed rows a x = place-case (λ p. Placed p x) rows x (N.le-of-suc-le (a .two)) (λ i l. a .each i l) (λ i l k. (a .each i (N.le-of-suc-le l), a .each (suc i) l, k))
+placed rows a x = place-case (λ p. Placed p x) rows x (N.le-of-suc-le (a .fewest)) (λ i l. accepted-row rows a i l) (λ i l k. (accepted-row rows a i (N.le-of-suc-le l), accepted-row rows a (suc i) l, k))
 
 -- ---- the lookup: rows i and i + 1 are around x for one i only
 
@@ -134,7 +135,7 @@ later : (rows : List Row) → AcceptedTable rows → (j n : ℕ) → j + n < len
 later rows a j zero h = N.le-of-eq (ap (λ (k : ℕ). rowAt rows k .day) (sym (N.add-zero j)))
 later rows a j (suc n) h =
     subst (λ (k : ℕ). rowAt rows j .day ≤ rowAt rows k .day) (sym (N.add-suc j n))
-    (N.le-trans (later rows a j n (less h)) (N.le-of-lt (a .rising (j + n) (subst (λ (k : ℕ). k < length rows) (N.add-suc j n) h))))
+    (N.le-trans (later rows a j n (less h)) (N.le-of-lt (rising rows a (j + n) (subst (λ (k : ℕ). k < length rows) (N.add-suc j n) h))))
   where
     less : j + suc n < length rows → j + n < length rows
     less h = omega arith

@@ -7,8 +7,24 @@ use lib.ListN.{length, getD}
 use Rattle.rows.specs.declared.Row.{Row}
 use Rattle.rows.specs.declared.Place.{Place}
 use Rattle.rows.specs.declared.Place.the-variants.{End, Between}
-use Rattle.rows.specs.Table.{row, rowAt, AcceptedRow, AcceptedTable}
+use Rattle.instants.specs.Refusals.{firstRefusal}
+use Rattle.rows.specs.Table.{row, rowAt, firstRowDay, lastRowDay, largest, tableCases, AcceptedTable}
 use Rattle.rows.specs.Places.{rowMoment}
+
+-- ---- the rules of a table
+
+-- the first refusal of rows, or 0
+unfoldable pub tableRefusal : List Row → ℕ
+tableRefusal rows = firstRefusal (tableCases rows)
+
+-- what a row of an accepted table has: its date, both amplitudes and its uncertainty, which is above 0, are within their limits
+pub record AcceptedRow (r : Row) : Type 0 where
+  pub from : firstRowDay ≤ r .day
+  pub to : r .day ≤ lastRowDay
+  pub xc-small : natAbs (r .xc) ≤ largest
+  pub xs-small : natAbs (r .xs) ≤ largest
+  pub uncertainty-positive : 0 < r .uncertainty
+  pub uncertainty-small : r .uncertainty ≤ largest
 
 -- ---- a table that is lent: rows of four numbers
 
@@ -28,10 +44,14 @@ unfoldable pub rowsOf : List (List ℤ) → List Row
 rowsOf [] = []
 rowsOf (r ∷ rs) = rowOf r ∷ rowsOf rs
 
--- the rows are accepted, and their numbers are those of the table
+-- the numbers are those of rows: no day and no uncertainty is below 0
+abbrev pub OfRows : List (List ℤ) → Type 0
+OfRows t = numbers (rowsOf t) ≡ t
+
+-- and the rows are accepted
 pub record Lent (t : List (List ℤ)) : Type 0 where
   pub accepted : AcceptedTable (rowsOf t)
-  pub same : numbers (rowsOf t) ≡ t
+  pub same : OfRows t
 
 -- ---- where x is among the rows
 

@@ -1,10 +1,14 @@
 -- A table of amplitudes of the free core nutation, and the rules that any accepted table keeps.
 -- Amplitudes and uncertainties are in hundredths of a microarcsecond.
-use mathlib.Core.List.{List}
-use Prim.Native.Nat.{ℕ, suc, _≤_, _<_}
+use mathlib.Core.Path.{_≡_}
+use mathlib.Core.Bool.{Bool, false, _||_}
+use mathlib.Core.List.{List, [], _∷_}
+use Prim.Native.Nat.{ℕ, zero, suc, _≤_}
+use lib.Dec.{ltb, leb}
 use lib.IntN.{ℤ, natAbs}
 use lib.ListN.{length, getD}
 use Rattle.algebra.specs.Integers.{+_}
+use Rattle.instants.specs.Refusals.{Case, case}
 use Rattle.rows.specs.declared.Row.{Row}
 
 -- a row: the day number of its date, XC, XS and the uncertainty
@@ -15,7 +19,14 @@ row d c s u = record { day = d; xc = c; xs = s; uncertainty = u }
 abbrev pub rowAt : List Row → ℕ → Row
 rowAt rows i = getD rows i (row 0 (+ 0) (+ 0) 0)
 
--- ---- the rules
+-- ---- the limits
+
+-- how many rows a table has
+abbrev pub fewestRows : ℕ
+fewestRows = 2
+
+abbrev pub mostRows : ℕ
+mostRows = 200
 
 -- the day numbers that a row may have
 abbrev pub firstRowDay : ℕ
@@ -28,18 +39,39 @@ lastRowDay = 88433
 abbrev pub largest : ℕ
 largest = 100_000
 
--- a row: its date, both amplitudes and its uncertainty, which is above 0, are within these limits
-pub record AcceptedRow (r : Row) : Type 0 where
-  pub from : firstRowDay ≤ r .day
-  pub to : r .day ≤ lastRowDay
-  pub xc-small : natAbs (r .xc) ≤ largest
-  pub xs-small : natAbs (r .xs) ≤ largest
-  pub uncertainty-positive : 0 < r .uncertainty
-  pub uncertainty-small : r .uncertainty ≤ largest
+-- ---- the refusals of rows
 
--- 2 to 200 rows with strictly rising days
+-- a day is out of its limits
+abbrev pub dayOut : Row → Bool
+dayOut r = ltb (r .day) firstRowDay || ltb lastRowDay (r .day)
+
+-- a row's day is not after that of the row before it
+abbrev pub notAfter : List Row → ℕ → Bool
+notAfter rows zero = false
+notAfter rows (suc i) = leb (rowAt rows (suc i) .day) (rowAt rows i .day)
+
+-- an amplitude is out of its limits, or the uncertainty, which is above 0
+abbrev pub numberOut : Row → Bool
+numberOut r = ltb largest (natAbs (r .xc)) || (ltb largest (natAbs (r .xs)) || (ltb (r .uncertainty) 1 || ltb largest (r .uncertainty)))
+
+-- f holds at one of the indices below n
+abbrev pub someBelow : ℕ → (ℕ → Bool) → Bool
+someBelow zero f = false
+someBelow (suc n) f = f n || someBelow n f
+
+-- 23 for some row's day, 24 for some row's numbers: each is looked for in all rows before the next
+unfoldable pub daysWrong : List Row → Bool
+daysWrong rows = someBelow (length rows) (λ i. dayOut (rowAt rows i) || notAfter rows i)
+
+unfoldable pub numbersWrong : List Row → Bool
+numbersWrong rows = someBelow (length rows) (λ i. numberOut (rowAt rows i))
+
+abbrev pub tableCases : List Row → List Case
+tableCases rows = case 23 (daysWrong rows) ∷ case 24 (numbersWrong rows) ∷ []
+
+-- a table that is accepted: 2 to 200 rows, and neither refusal
 pub record AcceptedTable (rows : List Row) : Type 0 where
-  pub two : 2 ≤ length rows
-  pub most : length rows ≤ 200
-  pub each : (i : ℕ) → i < length rows → AcceptedRow (rowAt rows i)
-  pub rising : (i : ℕ) → suc i < length rows → rowAt rows i .day < rowAt rows (suc i) .day
+  pub fewest : fewestRows ≤ length rows
+  pub most : length rows ≤ mostRows
+  pub days : daysWrong rows ≡ false
+  pub numbers : numbersWrong rows ≡ false

@@ -2,12 +2,15 @@
 // Derived from the IERS routine FCNNUT; not IERS Conventions software (NOTICE, docs/DIFFERENCES.md).
 use instants::INDEX_OFFSET;
 ghost use mathlib.Core.Path.{_≡_};
+ghost use mathlib.Core.Bool.{_||_};
+ghost use lib.Dec.{ltb};
+ghost use lib.IntN.{natAbs};
 ghost use Prim.Native.Nat.{_<_};
 ghost use lib.ListN.{length};
-ghost use Rattle.rows.specs.Table.{rowAt, AcceptedRow};
+ghost use Rattle.rows.specs.Table.{rowAt, largest, dayOut, notAfter, numberOut, daysWrong, numbersWrong};
 ghost use Rattle.rows.specs.BuiltIn.{builtIn};
 ghost use Rattle.rows.specs.Places.{rowMoment, place};
-ghost use Rattle.rows.specs.Inner.{rowsOf, Lent, Amid, Bracket};
+ghost use Rattle.rows.specs.Inner.{tableRefusal, AcceptedRow, numbers, rowsOf, OfRows, Lent, Amid, Bracket};
 
 // A row of a table: the day number of its date, the amplitudes and the uncertainty in hundredths of a microarcsecond.
 pub struct Row {
@@ -57,6 +60,20 @@ const ROWS: [[i64; 4]; 30] = [
     [56293, 11342, 25650, 186],
 ];
 
+// The numbers of the built-in rows.
+pub fn built_in() -> [[i64; 4]; 30]
+    ensures { λ t. ⌜ t ≡ numbers builtIn ⌝ }
+{
+    ROWS
+}
+
+// The day numbers that a row may have, and the largest amplitude and uncertainty.
+const FIRST_DAY: u64 = 15020;
+
+const LAST_DAY: u64 = 88433;
+
+const LARGEST: i64 = 100000;
+
 // The moment of 0 h of a row's day.
 pub fn row_moment(r: Row) -> u64
     requires { ⌜ AcceptedRow r ⌝ }
@@ -68,9 +85,8 @@ pub fn row_moment(r: Row) -> u64
 // The row at an index of a table that is lent.
 fn row_at(t: &[[i64; 4]], i: usize) -> Row
     requires index { ⌜ i < length (now t) ⌝ }
-    requires table { ⌜ Lent (now t) ⌝ }
-    ensures row { λ r. ⌜ r ≡ rowAt (rowsOf (now (t .entry))) i ⌝ }
-    ensures accepted { λ r. ⌜ AcceptedRow r ⌝ }
+    requires table { ⌜ OfRows (now t) ⌝ }
+    ensures { λ r. ⌜ r ≡ rowAt (rowsOf (now (t .entry))) i ⌝ }
 {
     Row {
         day: t[i][0] as u64,
@@ -78,6 +94,95 @@ fn row_at(t: &[[i64; 4]], i: usize) -> Row
         xs: t[i][2],
         uncertainty: t[i][3] as u64,
     }
+}
+
+// A row's day is out of its limits, or not after that of the row before it.
+fn day_wrong(t: &[[i64; 4]], i: usize) -> bool
+    requires index { ⌜ i < length (now t) ⌝ }
+    requires table { ⌜ OfRows (now t) ⌝ }
+    ensures { λ r. ⌜ r ≡ (dayOut (rowAt (rowsOf (now (t .entry))) i) || notAfter (rowsOf (now (t .entry))) i) ⌝ }
+{
+    let day = row_at(t, i).day;
+    if day < FIRST_DAY {
+        return true;
+    }
+    if LAST_DAY < day {
+        return true;
+    }
+    if i == 0 {
+        return false;
+    }
+    day <= row_at(t, i - 1).day
+}
+
+// A number is further from 0 than the largest.
+fn far(x: i64) -> bool
+    ensures { λ r. ⌜ r ≡ ltb largest (natAbs x) ⌝ }
+{
+    if x < 0 - LARGEST {
+        return true;
+    }
+    LARGEST < x
+}
+
+// A row's amplitude or uncertainty is out of its limits.
+fn number_wrong(r: Row) -> bool
+    ensures { λ b. ⌜ b ≡ numberOut r ⌝ }
+{
+    if far(r.xc) {
+        return true;
+    }
+    if far(r.xs) {
+        return true;
+    }
+    if r.uncertainty < 1 {
+        return true;
+    }
+    (LARGEST as u64) < r.uncertainty
+}
+
+// Some row's day is wrong.
+fn days_wrong(t: &[[i64; 4]]) -> bool
+    requires { ⌜ OfRows (now t) ⌝ }
+    ensures { λ r. ⌜ r ≡ daysWrong (rowsOf (now (t .entry))) ⌝ }
+{
+    let mut i: usize = 0;
+    while i < t.len() {
+        if day_wrong(t, i) {
+            return true;
+        }
+        i = i + 1;
+    }
+    false
+}
+
+// Some row's amplitude or uncertainty is wrong.
+fn numbers_wrong(t: &[[i64; 4]]) -> bool
+    requires { ⌜ OfRows (now t) ⌝ }
+    ensures { λ r. ⌜ r ≡ numbersWrong (rowsOf (now (t .entry))) ⌝ }
+{
+    let mut i: usize = 0;
+    while i < t.len() {
+        if number_wrong(row_at(t, i)) {
+            return true;
+        }
+        i = i + 1;
+    }
+    false
+}
+
+// The refusal of the rows of a table that is lent, or 0: all days are tested, then all amplitudes and uncertainties.
+pub fn refusal(t: &[[i64; 4]]) -> u32
+    requires { ⌜ OfRows (now t) ⌝ }
+    ensures { λ r. ⌜ r ≡ tableRefusal (rowsOf (now (t .entry))) ⌝ }
+{
+    if days_wrong(t) {
+        return 23;
+    }
+    if numbers_wrong(t) {
+        return 24;
+    }
+    0
 }
 
 // The index of the last row that is dated at or before a moment, which is neither before the first row nor at or after the last.
@@ -98,7 +203,7 @@ fn lookup(t: &[[i64; 4]], x: u64) -> usize
 }
 
 // The place of a moment among the rows of a table that is lent.
-fn place_at(t: &[[i64; 4]], x: u64) -> Place
+pub fn place_at(t: &[[i64; 4]], x: u64) -> Place
     requires { ⌜ Lent (now t) ⌝ }
     ensures { λ p. ⌜ p ≡ place (rowsOf (now (t .entry))) x ⌝ }
 {
@@ -112,12 +217,4 @@ fn place_at(t: &[[i64; 4]], x: u64) -> Place
     }
     let i = lookup(t, x);
     Place::Between(row_at(t, i), row_at(t, i + 1))
-}
-
-// The place of a moment among the built-in rows. The table is named once, and lent.
-pub fn built_in_place(x: u64) -> Place
-    ensures { λ p. ⌜ p ≡ place builtIn x ⌝ }
-{
-    let t = ROWS;
-    place_at(&t, x)
 }

@@ -1,98 +1,34 @@
--- `nutation::nutation_of` meets its contract, by the two cases of acceptance: the refusal is handed on, and of an accepted instant the moment is that of
--- its day's index and its place one of the built-in rows. Assumes nothing.
-use mathlib.Core.Path.{_≡_, sym, _∙_, ap, subst}
-use Prim.Native.Nat.{ℕ}
-use native.Mathlib.Nat.{le-trans, le-of-eq}
-use native.Mathlib.Omega.{arith}
+-- `nutation::nutation_of` meets its contract: the built-in rows are accepted, and are read back from their numbers. Assumes nothing.
+use mathlib.Core.Path.{sym, _∙_, ap, ap₂, subst}
+use mathlib.Core.List.{List}
 use lib.IntN.{ℤ}
 use mir.Facts.{toZ-ofZ}
-use Rattle.instants.specs.Instants.{acceptance}
-use Rattle.instants.specs.Moments.{moment}
-use Rattle.instants.specs.declared.Acceptance.the-variants.{Accepted}
-use Rattle.instants.proofs.Accepted.{AcceptedAt, accepted-at, refused-too, answered-too}
-use Rattle.instants.proofs.Moments.{moment-le}
-use Rattle.rows.specs.declared.Place.{Place}
+use Rattle.rows.specs.declared.Row.{Row}
 use Rattle.rows.specs.BuiltIn.{builtIn}
-use Rattle.rows.specs.Places.{place}
-use Rattle.rows.specs.Inner.{Placed}
-use Rattle.rows.proofs.Accepted.{builtIn-accepted}
-use Rattle.rows.proofs.Places.{placed}
-use Rattle.nutation.specs.declared.NutationAnswer.the-variants.{Nutation, NoNutation}
-use Rattle.nutation.specs.Ours.{offsetsAt, nutationOf}
+use Rattle.rows.specs.Inner.{rowsOf, Lent}
+use Rattle.rows.proofs.Accepted.{builtIn-accepted, rows-back, lent}
+use Rattle.nutation.specs.Ours.{nutationWith, nutationOf}
 use borrow.Author.Needs.{needs}
 use Rattle.nutation.proofs.nutation_of.Statement.{statement}
 use Rattle.nutation.proofs.nutation_of.Tie as tie
 
-says : (c : tie.After-accept) → c .accept .result ≡ acceptance (c .before .args .day) (c .before .args .micros)
-says c = c .accept .ensures ∙ ap (λ (d : ℤ). acceptance d (c .before .args .micros)) (toZ-ofZ (c .before .fits .day))
+built-in-requires : tie.Need-built-in-requires
+built-in-requires c κs = search needs
 
--- ---- where the instant is accepted, and its day has the index i
+slice-aggregate-nutation-with : tie.Need-slice-aggregate-nutation-with
+slice-aggregate-nutation-with c = search needs
 
-module _ (c : tie.After-known-told2) where
-  abbrev asked : tie.After-accept
-  asked = c .before .before .before
-
-  abbrev day : ℤ
-  day = asked .before .args .day
-
-  abbrev micros : ℕ
-  micros = asked .before .args .micros
-
-  abbrev i : ℕ
-  i = c .before .i .given .0 .0
-
-  found : acceptance day micros ≡ Accepted i
-  found = sym (says asked) ∙ c .before .i .given .1
-
-  known : AcceptedAt day micros i
-  known = accepted-at day micros i found
-
--- ---- the needs
-
-accept-requires : tie.Need-accept-requires
-accept-requires c κs = search needs
-
-enum-known-n : tie.Need-enum-known-n
-enum-known-n c = search needs
-
-enum-known-i : tie.Need-enum-known-i
-enum-known-i c = search needs
-
-moment-requires : tie.Need-moment-requires
-moment-requires c κs = (omega (arith, known c .high), known c .less)
-
-built-in-place-requires : tie.Need-built-in-place-requires
-built-in-place-requires c κs = search needs
-
-offsets-of-requires : tie.Need-offsets-of-requires
-offsets-of-requires c κs =
-    let m = c .before in
-    let k = known (m .before) in (
-      subst (λ (p : Place). Placed p (m .moment .result)) (sym (c .built-in-place .ensures)) (placed builtIn builtIn-accepted (m .moment .result)),
-      le-trans (le-of-eq (m .moment .ensures)) (moment-le _ _ (omega (arith, k .high)) (k .less)),
-    )
+nutation-with-requires : tie.Need-nutation-with-requires
+nutation-with-requires c κs = subst Lent (sym (c .before .built-in .ensures)) (lent builtIn builtIn-accepted)
 
 returns : tie.Need-returns
 unfolding nutationOf
-returns c = let q : tie.After-accept = c .before .before .before in refused-too NoNutation _ _ _ (sym (says q) ∙ c .before .n .given .1)
-
-returns-2 : tie.Need-returns-2
-unfolding nutationOf
-returns-2 c =
-    let m = c .before .before in
-    let e : m .moment .result ≡ moment _ (micros (m .before)) = m .moment .ensures ∙ ap (λ (i : ℕ). moment i (micros (m .before))) (sym (known (m .before) .index)) in
-    ap Nutation (c .offsets-of .ensures ∙ ap (λ (p : Place). offsetsAt p (m .moment .result)) (c .before .built-in-place .ensures) ∙ ap (λ (x : ℕ). offsetsAt (place builtIn x) x) e)
-    ∙ answered-too NoNutation _ _ _ (found (m .before))
+returns c =
+    let b = c .before .before in
+    c .nutation-with .ensures
+    ∙ ap₂ (λ (rows : List Row) (d : ℤ). nutationWith rows d (b .before .args .micros)) (ap rowsOf (b .built-in .ensures) ∙ rows-back builtIn) (toZ-ofZ (b .before .fits .day))
 
 pub nutation-of-spec : {M : Type 1} → statement M
 nutation-of-spec =
     tie.close
-    (tie.spec
-    accept-requires
-    enum-known-n
-    enum-known-i
-    moment-requires
-    built-in-place-requires
-    offsets-of-requires
-    returns
-    returns-2)
+    (tie.spec built-in-requires slice-aggregate-nutation-with nutation-with-requires returns)

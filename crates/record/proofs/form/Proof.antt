@@ -7,7 +7,8 @@ use mathlib.Core.List.{List}
 use lib.Dec.{eqb, ltb}
 use lib.ListN.{length}
 use denote.Ref.{now}
-use Rattle.record.specs.Format.{recordLength, version, lengthField, versionField, zeroField, fieldAt}
+use Rattle.bigendian.specs.Fields.{fieldAt}
+use Rattle.record.specs.Format.{recordLength, version, lengthField, versionField, zeroField}
 use Rattle.record.specs.Inner.{formRefusal}
 use borrow.Author.Needs.{needs}
 use Rattle.record.proofs.form.Statement.{statement}

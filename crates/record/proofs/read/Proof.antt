@@ -11,7 +11,8 @@ use mir.Facts.{toZ-pos}
 use Rattle.instants.proofs.FirstRefusal.{refused-first}
 use Rattle.clock.specs.Words.{joinOf}
 use Rattle.record.specs.declared.ReadAnswer.the-variants.{IsRecord, NoRecord}
-use Rattle.record.specs.Format.{recordLength, dayField, timeField, fieldAt}
+use Rattle.bigendian.specs.Fields.{fieldAt}
+use Rattle.record.specs.Format.{recordLength, dayField, timeField}
 use Rattle.record.specs.Records.{formCases, readOf}
 use Rattle.record.specs.Inner.{formRefusal}
 use Rattle.record.proofs.Forms.{formed, read-refused, read-joined}

@@ -10,7 +10,7 @@ use Rattle.rows.specs.declared.Row.{Row}
 use Rattle.rows.specs.Table.{rowAt}
 use Rattle.rows.specs.Places.{rowMoment}
 use Rattle.rows.specs.Inner.{rowsOf}
-use Rattle.rows.proofs.Accepted.{rows-length}
+use Rattle.rows.proofs.Accepted.{rows-length, lent-row}
 use Rattle.rows.proofs.lookup.Statement.{statement}
 use Rattle.rows.proofs.lookup.Tie as tie
 
@@ -35,11 +35,11 @@ entry c = c .before
 -- ---- facts there
 
 two : (c : tie.Start Inv-loop μ-loop) → 2 ≤ length (c .args .t .now)
-two c = omega (arith, c .pre .0 .accepted .two, rows-length (c .args .t .now))
+two c = omega (arith, c .pre .0 .accepted .fewest, rows-length (c .args .t .now))
 
 -- the next row's date
 next-date : (c : tie.After-row-moment Inv-loop μ-loop) → c .row-moment .result ≡ rowMoment (rowAt (rowsOf (entry (head c) .args .t .now)) (head c .loop .i + 1))
-next-date c = c .row-moment .ensures ∙ ap rowMoment (c .before .row-at .ensures .0)
+next-date c = c .row-moment .ensures ∙ ap rowMoment (c .before .row-at .ensures)
 
 sub-last : tie.Need-sub-last Inv-loop μ-loop
 sub-last c = omega (arith, two c)
@@ -51,10 +51,10 @@ add-row-at : tie.Need-add-row-at Inv-loop μ-loop
 add-row-at c = omega arith
 
 row-at-requires : tie.Need-row-at-requires Inv-loop μ-loop
-row-at-requires c κs = (omega arith, entry (c .before) .pre .0)
+row-at-requires c κs = (omega arith, entry (c .before) .pre .0 .same)
 
 row-moment-requires : tie.Need-row-moment-requires Inv-loop μ-loop
-row-moment-requires c κs = c .row-at .ensures .1
+row-moment-requires c κs = rw (c .row-at .ensures) (lent-row _ _ (omega arith) (entry (c .before .before) .pre .0))
 
 returns : tie.Need-returns Inv-loop μ-loop
 returns c =

@@ -1,17 +1,17 @@
--- `rows::row_at` meets its contract: the days and the uncertainties of an accepted table are natural numbers, and each number is itself as an i64.
+-- `rows::row_at` meets its contract: the days and the uncertainties are natural numbers, and each number is itself as an i64.
 -- Assumes nothing.
 use mathlib.Core.Path.{_≡_, refl}
 use mathlib.Core.List.{[]}
 use native.Mathlib.Omega.{arith}
-use Prim.Native.Nat.{ℕ}
+use Prim.Native.Nat.{ℕ, _^_, _<_}
 use lib.IntN.{ℤ, pos}
 use lib.ListN.{getD}
 use mir.Syntax.{w64}
 use mir.Val.{SFits}
 use mir.Facts.{toZ-ofZ}
-use Rattle.rows.specs.Table.{rowAt, AcceptedRow}
+use Rattle.rows.specs.Table.{rowAt}
 use Rattle.rows.specs.Inner.{numbersOf, rowsOf}
-use Rattle.rows.proofs.Accepted.{lent-numbers, lent-row}
+use Rattle.rows.proofs.Accepted.{numbers-are}
 use borrow.Author.Needs.{needs}
 use Rattle.rows.proofs.row_at.Statement.{statement}
 use Rattle.rows.proofs.row_at.Tie as tie
@@ -21,11 +21,12 @@ module _ (s : tie.Start) where
   abbrev cell : ℕ → ℤ
   cell j = getD (getD (s .args .t .now) (s .args .i) []) j (pos 0)
 
-  numbers-are : getD (s .args .t .now) (s .args .i) [] ≡ numbersOf (rowAt (rowsOf (s .args .t .now)) (s .args .i))
-  numbers-are = lent-numbers (s .args .t .now) (s .pre .1) (s .args .i) (s .pre .0)
+  is : getD (s .args .t .now) (s .args .i) [] ≡ numbersOf (rowAt (rowsOf (s .args .t .now)) (s .args .i))
+  is = numbers-are (s .args .t .now) (s .args .i) (s .pre .0) (s .pre .1)
 
-  accepted : AcceptedRow (rowAt (rowsOf (s .args .t .now)) (s .args .i))
-  accepted = lent-row (s .args .t .now) (s .pre .1) (s .args .i) (s .pre .0)
+-- a number that is the natural number n is itself as an i64
+natural : (n : ℕ) → SFits w64 (pos n) → n < 2 ^ 64
+natural n f = omega (arith, f .sfits)
 
 -- the start, from behind the last column
 abbrev entry : tie.After-t23 → tie.Start
@@ -46,7 +47,7 @@ cast-t8 : tie.Need-cast-t8
 cast-t8 c =
     let s = c .before in
     let f : SFits w64 (cell s 0) = search needs in
-    rw (toZ-ofZ f, numbers-are s) (tt, record { fits = omega (arith, accepted s .to) })
+    rw (toZ-ofZ f, is s) (tt, record { fits = natural _ (rw (is s) at f) })
 
 mul-t9 : tie.Need-mul-t9
 mul-t9 c = search needs
@@ -79,7 +80,7 @@ cast-t24 : tie.Need-cast-t24
 cast-t24 c =
     let s = entry c in
     let f : SFits w64 (cell s 3) = search needs in
-    rw (toZ-ofZ f, numbers-are s) (tt, record { fits = omega (arith, accepted s .uncertainty-small) })
+    rw (toZ-ofZ f, is s) (tt, record { fits = natural _ (rw (is s) at f) })
 
 returns : tie.Need-returns
 returns c =
@@ -88,7 +89,7 @@ returns c =
     let f₁ : SFits w64 (cell s 1) = search needs in
     let f₂ : SFits w64 (cell s 2) = search needs in
     let f₃ : SFits w64 (cell s 3) = search needs in
-    rw (toZ-ofZ f₀, toZ-ofZ f₁, toZ-ofZ f₂, toZ-ofZ f₃, numbers-are s) (refl, accepted s)
+    rw (toZ-ofZ f₀, toZ-ofZ f₁, toZ-ofZ f₂, toZ-ofZ f₃, is s) refl
 
 pub row-at-spec : {M : Type 1} → statement M
 row-at-spec =

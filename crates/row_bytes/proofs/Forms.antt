@@ -1,0 +1,76 @@
+-- Bytes are of the right form exactly when none of the cases of the form applies; then the cases that are left are those of the rows. Assumes nothing.
+use Prim.Native.Nat.{ℕ, _≤_}
+use mathlib.Core.Path.{_≡_, ap}
+use mathlib.Core.Bool.{not}
+use mathlib.Core.List.{List}
+use borrow.Author.Tests.{ltb-false, eqb-true, le-ltb, eq-eqb, not-false}
+use lib.ListN.{length}
+use Rattle.bigendian.specs.Fields.{fieldAt}
+use Rattle.instants.specs.Refusals.{refusedOr}
+use Rattle.instants.proofs.FirstRefusal.{NoneApplies, none-both, none-answered, refused-first, first-none}
+use Rattle.rows.specs.Table.{fewestRows, mostRows, tableCases, AcceptedTable}
+use Rattle.row_bytes.specs.Form.{headLength, lengthField, versionField, version, formLength, rowCount, tableIn, formCases, bytesCases}
+use Rattle.row_bytes.specs.Inner.{formRefusal}
+use Rattle.row_bytes.proofs.Reading.{table-count}
+
+-- bytes of the right form
+pub record Formed (s : List ℕ) : Type 0 where
+  pub long : headLength ≤ length s
+  pub size : fieldAt s lengthField ≡ length s
+  pub fewest : fewestRows ≤ rowCount (length s)
+  pub most : rowCount (length s) ≤ mostRows
+  pub whole : length s ≡ formLength (rowCount (length s))
+  pub version : fieldAt s versionField ≡ version
+
+pub none-formed : (s : List ℕ) → NoneApplies (formCases s) → Formed s
+none-formed s h = record {
+  long = ltb-false _ _ (h .0);
+  size = eqb-true _ _ (not-false _ (h .1 .0));
+  fewest = ltb-false _ _ (h .1 .1 .0);
+  most = ltb-false _ _ (h .1 .1 .1 .0);
+  whole = eqb-true _ _ (not-false _ (h .1 .1 .1 .1 .0));
+  version = eqb-true _ _ (not-false _ (h .1 .1 .1 .1 .1 .0));
+}
+
+pub formed : (s : List ℕ) → formRefusal s ≡ 0 → Formed s
+unfolding formRefusal
+formed s e = none-formed s (first-none (formCases s) tt e)
+
+-- bytes are accepted when their form is right and their rows are accepted
+pub none-applies : (s : List ℕ) → Formed s → AcceptedTable (tableIn s) → NoneApplies (bytesCases s)
+none-applies s f a = (
+  le-ltb (length s) headLength (f .long),
+  (
+    ap not (eq-eqb (fieldAt s lengthField) (length s) (f .size)),
+    (
+      le-ltb (rowCount (length s)) fewestRows (f .fewest),
+      (
+        le-ltb mostRows (rowCount (length s)) (f .most),
+        (
+          ap not (eq-eqb (length s) (formLength (rowCount (length s))) (f .whole)),
+          (
+            ap not (eq-eqb (fieldAt s versionField) version (f .version)),
+            (a .days, (a .numbers, tt)),
+          ),
+        ),
+      ),
+    ),
+  ),
+)
+
+-- PROMISE. Bytes that are refused by nothing hold an accepted table.
+pub table-held : (s : List ℕ) → NoneApplies (bytesCases s) → AcceptedTable (tableIn s)
+table-held s n =
+    let h = none-both (formCases s) (tableCases (tableIn s)) n in
+    let f = none-formed s (h .0) in
+    record { fewest = rw (table-count s) (f .fewest); most = rw (table-count s) (f .most); days = h .1 .0; numbers = h .1 .1 .0 }
+
+-- the cases of bytes, by those of their form
+module _ {A : Type 0} (refuse : ℕ → A) (s : List ℕ) (a : A) where
+  pub form-refused : (formRefusal s ≡ 0 → ⊥) → refusedOr refuse (bytesCases s) a ≡ refuse (formRefusal s)
+  unfolding formRefusal
+  form-refused h = refused-first refuse (formCases s) (refusedOr refuse (tableCases (tableIn s)) a) h
+
+  pub form-passed : formRefusal s ≡ 0 → refusedOr refuse (bytesCases s) a ≡ refusedOr refuse (tableCases (tableIn s)) a
+  unfolding formRefusal
+  form-passed e = none-answered refuse (formCases s) (refusedOr refuse (tableCases (tableIn s)) a) (first-none (formCases s) tt e)
