@@ -48,6 +48,11 @@ number-take s m i zero h = refl
 number-take s m i (suc k) h =
     ap₂ (λ (v y : ℕ). v * 256 + y) (number-take s m i k (omega arith)) (getD-take m s (i + k) 0 (omega arith))
 
+pub number-drop : (m : ℕ) (s : List ℕ) (i k : ℕ) → numberAt (drop m s) i k ≡ numberAt s (m + i) k
+number-drop m s i zero = refl
+number-drop m s i (suc k) =
+    ap₂ (λ (v y : ℕ). v * 256 + y) (number-drop m s i k) (getD-drop m s (i + k) 0 ∙ ap (λ (j : ℕ). getD s j 0) (omega arith))
+
 pub sum-next : (s : List ℕ) (k : ℕ) → wordSum s (suc k) ≡ wordSum s k + numberAt s (2 * k) 2
 unfolding wordSum
 sum-next s k = refl

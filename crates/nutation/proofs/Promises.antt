@@ -1,11 +1,12 @@
 -- What is promised of the answers: where they are given and how near they are, and that no constant would do.
 -- Assumes nothing.
-use mathlib.Core.Path.{_≡_, refl, sym}
+use mathlib.Core.Path.{_≡_, refl, sym, _∙_, ap}
 use mathlib.Core.List.{List}
 use Prim.Native.Nat.{ℕ, _+_, _*_, _<_}
 use lib.Dec.{lit≤}
 use lib.IntN.{ℤ, _-ℤ_, natAbs}
 use Rattle.instants.specs.Instants.{outside, dayIndex, acceptance, IsAccepted}
+use Rattle.instants.proofs.FirstRefusal.{none-answered}
 use Rattle.instants.proofs.Accepted.{answered-too}
 use Rattle.instants.proofs.Moments.{accepted-le}
 use Rattle.algebra.specs.Integers.{+_}
@@ -21,9 +22,12 @@ use Rattle.rows.specs.Table.{AcceptedTable}
 use Rattle.rows.specs.BuiltIn.{builtIn}
 use Rattle.rows.specs.Places.{started, place}
 use Rattle.nutation.specs.Exact.{span, exactX, exactY, exactDen}
-use Rattle.nutation.specs.Ours.{ourAngle, factor, mixed, amplitude, offset, offsetsAt, ourOffsets, nutationWith, nutationOf}
+use Rattle.nutation.specs.Ours.{ourAngle, factor, mixed, amplitude, offset, offsetsAt, ourOffsets, nutationWith, nutationOf, nutationRowsOf}
 use Rattle.nutation.specs.Claims.{distance, OffsetWithin, OffsetsNear}
 use Rattle.rows.proofs.Accepted.{builtIn-accepted}
+use Rattle.row_bytes.specs.Form.{tableBytes, tableIn, bytesCases, AcceptedBytes}
+use Rattle.row_bytes.proofs.Forms.{accepted-none, table-held}
+use Rattle.row_bytes.proofs.Round.{table-back, table-accepted}
 use Rattle.nutation.proofs.Distance.{offsets-near}
 
 -- ---- accepted instants
@@ -42,6 +46,28 @@ answer-near rows t d m a = (ourOffsets rows (momentOf d m), sym (answered-too No
 pub nutation-near : (d : ℤ) (m : ℕ) → IsAccepted d m → (o : Offsets) × (nutationOf d m ≡ Nutation o) × OffsetsNear builtIn (momentOf d m) o
 unfolding nutationOf
 nutation-near d m a = answer-near builtIn builtIn-accepted d m a
+
+-- ---- rows from the caller
+
+-- PROMISE. With accepted bytes the service is that over their rows, at every instant, a refused one too.
+pub rows-answered : (s : List ℕ) → AcceptedBytes s → (d : ℤ) (m : ℕ) → nutationRowsOf s d m ≡ nutationWith (tableIn s) d m
+unfolding nutationRowsOf
+rows-answered s e d m = none-answered NoNutation (bytesCases s) _ (accepted-none s e)
+
+-- PROMISE. Accepted rows, written as bytes, are answered as those rows are.
+pub rows-alike : (rows : List Row) → AcceptedTable rows → (d : ℤ) (m : ℕ) → nutationRowsOf (tableBytes rows) d m ≡ nutationWith rows d m
+rows-alike rows a d m = rows-answered (tableBytes rows) (table-accepted rows a) d m ∙ ap (λ (t : List Row). nutationWith t d m) (table-back rows a)
+
+-- PROMISE. The built-in rows, written as bytes, are accepted and give the built-in edition's answer at every instant.
+pub built-in-alike : AcceptedBytes (tableBytes builtIn) × ((d : ℤ) (m : ℕ) → nutationRowsOf (tableBytes builtIn) d m ≡ nutationOf d m)
+unfolding nutationOf
+built-in-alike = (table-accepted builtIn builtIn-accepted, rows-alike builtIn builtIn-accepted)
+
+-- PROMISE. With accepted bytes the answer at every accepted instant is given, of their rows: both offsets within 2 nanoarcseconds of the exact ones and
+-- the uncertainty exact.
+pub rows-near : (s : List ℕ) → AcceptedBytes s → (d : ℤ) (m : ℕ) → IsAccepted d m
+    → (o : Offsets) × (nutationRowsOf s d m ≡ Nutation o) × OffsetsNear (tableIn s) (momentOf d m) o
+rows-near s e d m a = let n = answer-near (tableIn s) (table-held s e) d m a in (n .0, rows-answered s e d m ∙ n .1, n .2)
 
 -- ---- no constant
 

@@ -38,6 +38,8 @@ use Rattle.record.specs.declared.ReadAnswer.the-variants.{NoRecord}
 use Rattle.record.proofs.Kept as kept
 use Rattle.run.specs.Run.{runCases, runRefusal}
 use Rattle.run.proofs.Records as records
+use Rattle.row_bytes.specs.Form.{bytesCases}
+use Rattle.promises.proofs.Rows.{handed-rows, rows-offsets}
 use Rattle.promises.proofs.Utc.{handed-readings, utc-to-tt, phase, handed-instants, tt-to-utc}
 use Rattle.promises.specs.AnyInput.{Number, AnyInputIsAnswered}
 
@@ -112,7 +114,7 @@ module _ (r : Reading) (k : Doodson) where
 
 -- PROMISE. Demand 1: any input is answered.
 pub any-input-is-answered : AnyInputIsAnswered
-unfolding outside dayOf dateOf instantOf utc.ttOf utc.utcOf splitOf joinOf zonal.zonalOf nutation.nutationOf readOf
+unfolding outside dayOf dateOf instantOf utc.ttOf utc.utcOf splitOf joinOf zonal.zonalOf nutation.nutationOf nutation.nutationRowsOf readOf
 any-input-is-answered = record {
   date-to-day = date-to-day;
   date-to-day-numbers = λ y m d. number NoDay dateRefusalOf (dateCases y m d) _ (date-to-day y m d) tt dayNumberOr (pos 0) (λ _ _. refl) (λ _. refl);
@@ -150,6 +152,12 @@ any-input-is-answered = record {
     number nutationCase.NoNutation nutation.nutationRefusalOf (instantCases d m) _ (offsets d m) tt nutation.xOr (pos 0) (λ _ _. refl) (λ _. refl),
     number nutationCase.NoNutation nutation.nutationRefusalOf (instantCases d m) _ (offsets d m) tt nutation.yOr (pos 0) (λ _ _. refl) (λ _. refl),
     number nutationCase.NoNutation nutation.nutationRefusalOf (instantCases d m) _ (offsets d m) tt nutation.uncertaintyOr 0 (λ _ _. refl) (λ _. refl),
+  );
+  rows-offsets = rows-offsets;
+  rows-offsets-numbers = λ s d m. (
+    number nutationCase.NoNutation nutation.nutationRefusalOf (bytesCases s ++ instantCases d m) _ (handed-rows s d m) tt nutation.xOr (pos 0) (λ _ _. refl) (λ _. refl),
+    number nutationCase.NoNutation nutation.nutationRefusalOf (bytesCases s ++ instantCases d m) _ (handed-rows s d m) tt nutation.yOr (pos 0) (λ _ _. refl) (λ _. refl),
+    number nutationCase.NoNutation nutation.nutationRefusalOf (bytesCases s ++ instantCases d m) _ (handed-rows s d m) tt nutation.uncertaintyOr 0 (λ _ _. refl) (λ _. refl),
   );
   record-write = write;
   record-write-keeps = kept.refused-unchanged;

@@ -1,5 +1,6 @@
 -- Demand 2 holds. Each field is proved from the theorem of its service that docs/PROMISES.md names. Assumes nothing.
 use mathlib.Core.Path.{_≡_, refl}
+use mathlib.Core.List.{List}
 use Prim.Native.Nat.{_+_, _<_}
 use lib.Dec.{T}
 use lib.IntN.{pos}
@@ -28,6 +29,14 @@ use Rattle.tide.specs.declared.Doodson.{Doodson}
 use Rattle.tide.specs.declared.TideAnswer.the-variants.{Tide}
 use Rattle.tide.proofs.Promises.{frequency-finite, phase-in-turn, at-instant, zeros-give-zero, fraction-from-one}
 use Rattle.tide.proofs.Published.{published}
+use Rattle.rows.specs.declared.Row.{Row}
+use Rattle.rows.specs.Table.{AcceptedTable}
+use Rattle.rows.proofs.Accepted.{accepted-row, rising, accepted-rows}
+use Rattle.row_bytes.specs.Form.{tableIn}
+use Rattle.row_bytes.proofs.Forms.{table-held}
+use Rattle.row_bytes.proofs.Round.{table-back, table-accepted}
+use Rattle.row_bytes.proofs.Again.{table-again}
+use Rattle.nutation.proofs.Promises.{rows-answered, built-in-alike}
 use Rattle.record.proofs.Round.{read-written}
 use Rattle.record.proofs.Again.{written-again}
 use Rattle.record.proofs.Kept.{write-keeps, read-front}
@@ -37,7 +46,7 @@ use Rattle.run.proofs.ReadBack.{record-place}
 use Rattle.instants.proofs.LaterInstants.{later-by}
 use Rattle.promises.specs.AnyInput.{daysWithSecond60}
 use Rattle.promises.proofs.Utc.{eves}
-use Rattle.promises.specs.Exactness.{Exactness}
+use Rattle.promises.specs.Exactness.{KeepsRules, Exactness}
 
 -- ---- some readings and instants, computed
 
@@ -62,6 +71,28 @@ corrected r t k e = at-instant (record { tt = t; utc = r; together = e }) k
 past-the-day : (r : Reading) → AcceptedReading r → 59 < r .second → (readingMicros r ≡ 86_400_000_000 + r .microsecond) × T (le (whole (pos 1)) (dayFraction (readingMicros r)))
 past-the-day r a h = let p = phaseInstantOf r a in (sixty-past-the-day p h, fraction-from-one p h)
 
+-- ---- the rules of a table, in figures
+
+keeps-rules : (rows : List Row) → AcceptedTable rows → KeepsRules rows
+keeps-rules rows a = record {
+  rows-2-to-200 = (a .fewest, a .most);
+  days = λ i h. let r = accepted-row rows a i h in (r .from, r .to);
+  rising = rising rows a;
+  amplitudes = λ i h. let r = accepted-row rows a i h in (r .xc-small, r .xs-small);
+  uncertainties = λ i h. let r = accepted-row rows a i h in (r .uncertainty-positive, r .uncertainty-small);
+}
+
+rules-accepted : (rows : List Row) → KeepsRules rows → AcceptedTable rows
+rules-accepted rows k = accepted-rows rows (k .rows-2-to-200 .0) (k .rows-2-to-200 .1)
+    (λ i h. record {
+      from = k .days i h .0;
+      to = k .days i h .1;
+      xc-small = k .amplitudes i h .0;
+      xs-small = k .amplitudes i h .1;
+      uncertainty-positive = k .uncertainties i h .0;
+      uncertainty-small = k .uncertainties i h .1;
+    }) (k .rising)
+
 -- PROMISE. Demand 2: exactness.
 pub exactness : Exactness
 exactness = record {
@@ -80,6 +111,11 @@ exactness = record {
   frequency-finite = frequency-finite;
   phase-in-turn = phase-in-turn;
   zeros-give-zero = zeros-give-zero;
+  table-keeps-rules = λ s e. keeps-rules (tableIn s) (table-held s e);
+  table-written-again = table-again;
+  table-reads-back = λ rows k. (table-accepted rows (rules-accepted rows k), table-back rows (rules-accepted rows k));
+  rows-of-bytes = rows-answered;
+  built-in-rows = built-in-alike;
   record-reads-back = read-written;
   record-written-again = written-again;
   record-reads-front = read-front;

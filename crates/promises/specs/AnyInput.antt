@@ -3,7 +3,7 @@
 -- leaves the numbers that their own calls give. That each exported call gives these for every input is its contract (crates/enfysgar/src).
 -- The rules are written out here a second time, with their figures and apart from the lists and limits of the definitions (the length of a month, the
 -- mark, numbers and sums in bytes and a later day are theirs): first when each refusal is given, then for each service its refusals in their order.
-use Prim.Native.Nat.{ℕ, _-_, _*_, _/_, _%_}
+use Prim.Native.Nat.{ℕ, _+_, _-_, _*_, _/_, _%_}
 use mathlib.Core.Path.{_≡_}
 use mathlib.Core.Bool.{Bool, cond, not, _&&_, _||_}
 use mathlib.Core.List.{List, [], _∷_, _++_}
@@ -26,7 +26,8 @@ use Rattle.tide.specs.Tidal as tide
 use Rattle.tide.specs.declared.Doodson.{Doodson}
 use Rattle.zonal.specs.Ours as zonal
 use Rattle.nutation.specs.Ours as nutation
-use Rattle.bigendian.specs.Numbers.{numberAt, wordSum}
+use Rattle.bigendian.specs.Numbers.{numberAt, wordSum, signedOf}
+use Rattle.rows.specs.Table.{someBelow}
 use Rattle.record.specs.Records.{writeRefusal, written, readOf, recordDayOf, recordDayOr, recordMicrosOf, recordMicrosOr, recordUt1Of, recordUt1Or, recordLodOf, recordLodOr, recordRateOf, recordRateOr, readRefusalOf}
 use Rattle.run.specs.Run.{runRefusal, runWritten}
 
@@ -106,6 +107,46 @@ refusal17 count = case 17 (ltb count 1 || ltb 96 count)
 
 abbrev pub refusal18 : ℕ → Case
 refusal18 step = case 18 (ltb step 1 || ltb 86_400_000_000 step)
+
+-- a table of rows as bytes, length first: fewer than three bytes, a length field that is not the number of bytes, or a number that is not 3 + 16 n for
+-- n rows, 2 to 200: 35 to 3203, and 3 above a multiple of 16; then its version
+abbrev pub tableLength : ℕ → Bool
+tableLength n = leb 35 n && (leb n 3203 && eqb (n % 16) 3)
+
+abbrev pub refusal21 : List ℕ → Case
+refusal21 s = case 21 (ltb (length s) 3 || (not (eqb (numberAt s 0 2) (length s)) || not (tableLength (length s))))
+
+abbrev pub refusal22 : List ℕ → Case
+refusal22 s = case 22 (not (eqb (numberAt s 2 1) 1))
+
+-- the number of its rows, and of the row at i, counted from 0, the day, XC, XS and the uncertainty
+abbrev pub tableRows : List ℕ → ℕ
+tableRows s = (length s - 3) / 16
+
+abbrev pub tableDay : List ℕ → ℕ → ℕ
+tableDay s i = numberAt s (3 + 16 * i) 4
+
+abbrev pub tableXC : List ℕ → ℕ → ℤ
+tableXC s i = signedOf 4 (numberAt s (7 + 16 * i) 4)
+
+abbrev pub tableXS : List ℕ → ℕ → ℤ
+tableXS s i = signedOf 4 (numberAt s (11 + 16 * i) 4)
+
+abbrev pub tableUncertainty : List ℕ → ℕ → ℤ
+tableUncertainty s i = signedOf 4 (numberAt s (15 + 16 * i) 4)
+
+-- in some row a day that is out of its limits, or not after that of the row before
+abbrev pub refusal23 : List ℕ → Case
+refusal23 s =
+    case 23 (someBelow (tableRows s) (λ i. (ltb (tableDay s i) 15020 || ltb 88433 (tableDay s i)) || (ltb 0 i && leb (tableDay s i) (tableDay s (i - 1)))))
+
+-- in some row an amplitude outside -1000 to 1000 microarcseconds, or an uncertainty that is not above 0 and at most 1000
+abbrev pub beyond : ℤ → Bool
+beyond z = ltZ z (negℤ (pos 100_000)) || ltZ (pos 100_000) z
+
+abbrev pub refusal24 : List ℕ → Case
+refusal24 s =
+    case 24 (someBelow (tableRows s) (λ i. beyond (tableXC s i) || (beyond (tableXS s i) || (ltZ (tableUncertainty s i) (pos 1) || ltZ (pos 100_000) (tableUncertainty s i)))))
 
 -- the 27 days that have a second 60, in their last minute
 unfoldable pub daysWithSecond60 : List Date
@@ -187,6 +228,13 @@ pub record AnyInputIsAnswered : Type 0 where
       → Number nutation.nutationRefusalOf nutation.xOf nutation.xOr (pos 0) (nutation.nutationOf d m)
       × Number nutation.nutationRefusalOf nutation.yOf nutation.yOr (pos 0) (nutation.nutationOf d m)
       × Number nutation.nutationRefusalOf nutation.uncertaintyOf nutation.uncertaintyOr 0 (nutation.nutationOf d m)
+  -- (f) with rows from the caller
+  pub rows-offsets : (s : List ℕ) (d : ℤ) (m : ℕ) → nutation.nutationRefusalOf (nutation.nutationRowsOf s d m)
+      ≡ firstRefusal (refusal21 s ∷ refusal22 s ∷ refusal23 s ∷ refusal24 s ∷ refusal8 d ∷ refusal9 m ∷ [])
+  pub rows-offsets-numbers : (s : List ℕ) (d : ℤ) (m : ℕ)
+      → Number nutation.nutationRefusalOf nutation.xOf nutation.xOr (pos 0) (nutation.nutationRowsOf s d m)
+      × Number nutation.nutationRefusalOf nutation.yOf nutation.yOr (pos 0) (nutation.nutationRowsOf s d m)
+      × Number nutation.nutationRefusalOf nutation.uncertaintyOf nutation.uncertaintyOr 0 (nutation.nutationRowsOf s d m)
   -- (g) one record
   pub record-write : (d : ℤ) (m n : ℕ) → writeRefusal d m n ≡ firstRefusal (refusal8 d ∷ refusal9 m ∷ refusal12 n 30 ∷ [])
   pub record-write-keeps : (d : ℤ) (m : ℕ) (ut1 lod rate : ℤ) (old : List ℕ) → (writeRefusal d m (length old) ≡ 0 → ⊥) → written d m ut1 lod rate old ≡ old

@@ -1,8 +1,9 @@
 -- Demand 3: distance. At every accepted instant the corrections are within 20 nanoseconds, 200 picoseconds and 20 * 10^-20 radian per second of the
--- exact sums over all 62 rows, in service (e) and in a run, and both offsets within 2 nanoarcseconds of the exact ones. A distance is over a denominator that is above 0.
+-- exact sums over all 62 rows, in service (e) and in a run, and both offsets within 2 nanoarcseconds of the exact ones, with the built-in rows and
+-- with the caller's. A distance is over a denominator that is above 0.
 use Prim.Native.Nat.{ℕ, _*_, _≤_, _<_}
 use mathlib.Core.Path.{_≡_}
-use mathlib.Core.List.{List}
+use mathlib.Core.List.{List, [], _∷_}
 use lib.IntN.{ℤ, pos}
 use lib.ListN.{length, take, drop}
 use Rattle.instants.specs.Instants.{IsAccepted, laterDay, laterMicros}
@@ -15,7 +16,8 @@ use Rattle.run.specs.ReadBack.{ReadsAt}
 use Rattle.rows.specs.BuiltIn.{builtIn}
 use Rattle.rows.specs.Places.{rowMoment}
 use Rattle.rows.specs.declared.Row.{Row}
-use Rattle.nutation.specs.Ours.{nutationOf}
+use Rattle.row_bytes.specs.Form.{tableIn, AcceptedBytes}
+use Rattle.nutation.specs.Ours.{nutationOf, nutationRowsOf}
 use Rattle.nutation.specs.Exact.{exactX, exactY, exactDen}
 use Rattle.nutation.specs.Claims as nutation
 use Rattle.nutation.specs.Claims.{OffsetsNear}
@@ -41,6 +43,11 @@ pub record Distance : Type 0 where
   pub row-dates : (r : Row) → since (rowMoment r) ≡ sinceJ2000 (pos (r .day)) 0
   -- (f) every accepted instant is answered by two offsets within 2 nanoarcseconds of the exact ones, and the exact uncertainty
   pub offsets-near : (d : ℤ) (m : ℕ) → IsAccepted d m → (o : Offsets) × (nutationOf d m ≡ Nutation o) × OffsetsNear builtIn (momentOf d m) o
+  -- and so with the rows of any accepted bytes, by those rows
+  pub rows-near : (s : List ℕ) → AcceptedBytes s → (d : ℤ) (m : ℕ) → IsAccepted d m
+      → (o : Offsets) × (nutationRowsOf s d m ≡ Nutation o) × OffsetsNear (tableIn s) (momentOf d m) o
+  -- accepted bytes exist: a table of two rows
+  pub some-rows : AcceptedBytes (0 ∷ 35 ∷ 1 ∷ 0 ∷ 0 ∷ 58 ∷ 172 ∷ 0 ∷ 0 ∷ 0 ∷ 0 ∷ 0 ∷ 0 ∷ 0 ∷ 0 ∷ 0 ∷ 0 ∷ 0 ∷ 1 ∷ 0 ∷ 1 ∷ 89 ∷ 113 ∷ 255 ∷ 254 ∷ 121 ∷ 96 ∷ 0 ∷ 1 ∷ 134 ∷ 160 ∷ 0 ∷ 1 ∷ 134 ∷ 160 ∷ [])
   -- no constant offset would do
   pub offsets-vary : (c : ℤ)
       → (((d : ℤ) (m : ℕ) → IsAccepted d m → nutation.OffsetWithin c (exactX builtIn (momentOf d m)) (exactDen builtIn (momentOf d m))) → ⊥)

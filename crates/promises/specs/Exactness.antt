@@ -1,6 +1,6 @@
--- Demand 2: exactness. Dates each way; frequency and phase; records read back; clock words joined exactly when they are of one day; UTC readings and
--- instants each way.
-use Prim.Native.Nat.{ℕ, _+_, _*_, _≤_, _<_}
+-- Demand 2: exactness. Dates each way; frequency and phase; records read back; clock words joined exactly when they are of one day; rows from the caller
+-- read as they were written; UTC readings and instants each way.
+use Prim.Native.Nat.{ℕ, suc, _+_, _*_, _≤_, _<_}
 use mathlib.Core.Path.{_≡_}
 use mathlib.Core.Bool.{false}
 use mathlib.Core.List.{List, _++_}
@@ -38,12 +38,25 @@ use Rattle.tide.specs.Claims.{Finite, InTurn, withinMillionth, m2}
 use Rattle.tide.specs.declared.Doodson.{Doodson}
 use Rattle.tide.specs.declared.TideAnswer.the-variants as tideCase
 use Rattle.bigendian.specs.Numbers.{Bytes}
+use Rattle.rows.specs.declared.Row.{Row}
+use Rattle.rows.specs.Table.{rowAt}
+use Rattle.rows.specs.BuiltIn.{builtIn}
+use Rattle.row_bytes.specs.Form.{tableBytes, tableIn, AcceptedBytes}
+use Rattle.nutation.specs.Ours.{nutationWith, nutationOf, nutationRowsOf}
 use Rattle.record.specs.Format.{recordLength}
 use Rattle.record.specs.Records.{recordWith, writeRefusal, written, readOf}
 use Rattle.record.specs.declared.Record.{Record}
 use Rattle.record.specs.declared.ReadAnswer.the-variants.{IsRecord}
 use Rattle.instants.specs.Moments.{sinceJ2000}
 use Rattle.run.specs.Run.{runRefusal, recordAt, runWritten}
+
+-- a table of rows in the figures of its rules
+pub record KeepsRules (rows : List Row) : Type 0 where
+  pub rows-2-to-200 : (2 ≤ length rows) × (length rows ≤ 200)
+  pub days : (i : ℕ) → i < length rows → (15020 ≤ rowAt rows i .day) × (rowAt rows i .day ≤ 88433)
+  pub rising : (i : ℕ) → suc i < length rows → rowAt rows i .day < rowAt rows (suc i) .day
+  pub amplitudes : (i : ℕ) → i < length rows → (natAbs (rowAt rows i .xc) ≤ 100_000) × (natAbs (rowAt rows i .xs) ≤ 100_000)
+  pub uncertainties : (i : ℕ) → i < length rows → (0 < rowAt rows i .uncertainty) × (rowAt rows i .uncertainty ≤ 100_000)
 
 pub record Exactness : Type 0 where
   -- (a) the date of a date's day number is that date, and the day number of a day number's date is that day number
@@ -79,6 +92,15 @@ pub record Exactness : Type 0 where
   pub phase-in-turn : (r : Reading) (k : Doodson) → InTurn (phaseOf (tideOf r k))
   pub zeros-give-zero : (r : Reading) → AcceptedReading r
       → tideOf r (doodson (pos 0) (pos 0) (pos 0) (pos 0) (pos 0) (pos 0)) ≡ tideCase.Tide (record { frequency = zero64; phase = zero64 })
+  -- (f) accepted bytes hold a table that keeps the rules, and are that table's byte form
+  pub table-keeps-rules : (s : List ℕ) → AcceptedBytes s → KeepsRules (tableIn s)
+  pub table-written-again : (s : List ℕ) → Bytes s → AcceptedBytes s → tableBytes (tableIn s) ≡ s
+  -- rows that keep the rules, written as bytes, are accepted and read back
+  pub table-reads-back : (rows : List Row) → KeepsRules rows → AcceptedBytes (tableBytes rows) × (tableIn (tableBytes rows) ≡ rows)
+  -- both editions are one service over a table: accepted bytes are answered by their rows at every instant, a refused one too; and the built-in rows,
+  -- written as bytes, are accepted and answered by what the built-in edition gives
+  pub rows-of-bytes : (s : List ℕ) → AcceptedBytes s → (d : ℤ) (m : ℕ) → nutationRowsOf s d m ≡ nutationWith (tableIn s) d m
+  pub built-in-rows : AcceptedBytes (tableBytes builtIn) × ((d : ℤ) (m : ℕ) → nutationRowsOf (tableBytes builtIn) d m ≡ nutationOf d m)
   -- (g) a record written at an accepted instant, with any three numbers of 32 bits, into thirty bytes or more reads back as it was
   pub record-reads-back : (d : ℤ) (m : ℕ) (ut1 lod rate : ℤ) (old : List ℕ) → IsAccepted d m → recordLength ≤ length old → SFits w32 ut1 → SFits w32 lod → SFits w32 rate
       → readOf (written d m ut1 lod rate old) ≡ IsRecord (recordWith d m ut1 lod rate)

@@ -11,14 +11,13 @@ use lib.Seq.{getD-drop}
 use Rattle.bigendian.specs.Numbers.{Bytes}
 use Rattle.bigendian.specs.Fields.{signedAt}
 use Rattle.bigendian.proofs.Fields.{field-bytes, signed-field, field-on}
-use Rattle.instants.proofs.FirstRefusal.{NoneApplies, none-both}
 use Rattle.rows.specs.declared.Row.{Row}
-use Rattle.rows.specs.Table.{rowAt, tableCases}
+use Rattle.rows.specs.Table.{rowAt}
 use Rattle.rows.specs.Inner.{AcceptedRow}
 use Rattle.rows.proofs.Accepted.{accepted-row}
-use Rattle.row_bytes.specs.Form.{lengthField, versionField, headLength, dayField, xcField, xsField, uncertaintyField, rowLength, formLength, rowBytes, allBytes, tableBytes, atLeast0, rowIn, rowsIn, rowCount, tableIn, formCases, bytesCases}
+use Rattle.row_bytes.specs.Form.{lengthField, versionField, headLength, dayField, xcField, xsField, uncertaintyField, rowLength, formLength, rowBytes, allBytes, tableBytes, atLeast0, rowIn, rowsIn, rowCount, tableIn, AcceptedBytes}
 use Rattle.row_bytes.proofs.Reading.{rows-count, table-count}
-use Rattle.row_bytes.proofs.Forms.{none-formed, table-held}
+use Rattle.row_bytes.proofs.Forms.{accepted-form, table-held}
 
 -- what is behind the first n bytes is bytes
 behind : (n : ℕ) {s : List ℕ} → Bytes s → Bytes (drop n s)
@@ -47,12 +46,12 @@ all-again (suc n) s b e u =
     (all-again n (drop rowLength s) (behind rowLength b) (length-drop rowLength s ∙ omega arith) (λ i h. u (suc i) (suc-le-suc h)))
     ∙ take-append-drop rowLength s
 
--- PROMISE. The rows of bytes that are refused by nothing have these bytes as their byte form.
-pub table-again : (s : List ℕ) → Bytes s → NoneApplies (bytesCases s) → tableBytes (tableIn s) ≡ s
+-- PROMISE. The rows of accepted bytes have these bytes as their byte form.
+pub table-again : (s : List ℕ) → Bytes s → AcceptedBytes s → tableBytes (tableIn s) ≡ s
 unfolding tableBytes tableIn
-table-again s b n =
-    let f = none-formed s (none-both (formCases s) (tableCases (tableIn s)) n .0) in
-    let a = table-held s n in
+table-again s b e =
+    let f = accepted-form s e in
+    let a = table-held s e in
     let k : ℕ = rowCount (length s) in
     ap₂ (λ (x y : List ℕ). x ++ y)
     (field-on s versionField

@@ -9,7 +9,7 @@ use Rattle.bigendian.specs.Fields.{fieldAt}
 use Rattle.instants.specs.Refusals.{refusedOr}
 use Rattle.instants.proofs.FirstRefusal.{NoneApplies, none-both, none-answered, refused-first, first-none}
 use Rattle.rows.specs.Table.{fewestRows, mostRows, tableCases, AcceptedTable}
-use Rattle.row_bytes.specs.Form.{headLength, lengthField, versionField, version, formLength, rowCount, tableIn, formCases, bytesCases}
+use Rattle.row_bytes.specs.Form.{headLength, lengthField, versionField, version, formLength, rowCount, tableIn, formCases, bytesCases, AcceptedBytes}
 use Rattle.row_bytes.specs.Inner.{formRefusal}
 use Rattle.row_bytes.proofs.Reading.{table-count}
 
@@ -36,9 +36,16 @@ pub formed : (s : List ℕ) → formRefusal s ≡ 0 → Formed s
 unfolding formRefusal
 formed s e = none-formed s (first-none (formCases s) tt e)
 
+-- accepted bytes
+pub accepted-none : (s : List ℕ) → AcceptedBytes s → NoneApplies (bytesCases s)
+accepted-none s e = first-none (bytesCases s) tt e
+
+pub accepted-form : (s : List ℕ) → AcceptedBytes s → Formed s
+accepted-form s e = none-formed s (none-both (formCases s) (tableCases (tableIn s)) (accepted-none s e) .0)
+
 -- bytes are accepted when their form is right and their rows are accepted
-pub none-applies : (s : List ℕ) → Formed s → AcceptedTable (tableIn s) → NoneApplies (bytesCases s)
-none-applies s f a = (
+pub bytes-accepted : (s : List ℕ) → Formed s → AcceptedTable (tableIn s) → AcceptedBytes s
+bytes-accepted s f a = none-answered (λ n. n) (bytesCases s) 0 (
   le-ltb (length s) headLength (f .long),
   (
     ap not (eq-eqb (fieldAt s lengthField) (length s) (f .size)),
@@ -58,10 +65,10 @@ none-applies s f a = (
   ),
 )
 
--- PROMISE. Bytes that are refused by nothing hold an accepted table.
-pub table-held : (s : List ℕ) → NoneApplies (bytesCases s) → AcceptedTable (tableIn s)
-table-held s n =
-    let h = none-both (formCases s) (tableCases (tableIn s)) n in
+-- PROMISE. Accepted bytes hold an accepted table.
+pub table-held : (s : List ℕ) → AcceptedBytes s → AcceptedTable (tableIn s)
+table-held s e =
+    let h = none-both (formCases s) (tableCases (tableIn s)) (accepted-none s e) in
     let f = none-formed s (h .0) in
     record { fewest = rw (table-count s) (f .fewest); most = rw (table-count s) (f .most); days = h .1 .0; numbers = h .1 .1 .0 }
 

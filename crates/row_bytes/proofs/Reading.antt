@@ -2,12 +2,13 @@
 use Prim.Native.Nat.{ℕ, zero, suc, _+_, _-_, _*_, _<_, _≤_}
 use mathlib.Core.Path.{_≡_, refl, ap, _∙_, sym}
 use mathlib.Core.List.{List, [], _∷_, _++_, append-assoc}
-use native.Mathlib.Nat.{le-of-eq}
+use native.Mathlib.Nat.{le-of-eq, not-suc-le-zero, le-of-suc-le-suc}
 use native.Mathlib.Omega.{arith}
 use lib.IntN.{ℤ}
 use lib.ListN.{length, take, drop, set, length-append, length-drop}
 use lib.Seq.{take-all, drop-cons, drop-drop, set-at, take-at}
 use Rattle.rows.specs.declared.Row.{Row}
+use Rattle.rows.specs.Table.{rowAt}
 use Rattle.rows.specs.Inner.{numbersOf, numbers}
 use Rattle.rows.proofs.Accepted.{numbers-length}
 use Rattle.row_bytes.specs.Form.{headLength, rowLength, rowIn, rowsIn, rowCount, tableIn}
@@ -28,6 +29,20 @@ table-count s = rows-count (rowCount (length s)) (drop headLength s)
 
 pub table-length : (s : List ℕ) → length (numbers (tableIn s)) ≡ rowCount (length s)
 table-length s = numbers-length (tableIn s) ∙ table-count s
+
+-- the row at an index
+rows-at : (n : ℕ) (s : List ℕ) (i : ℕ) → i < n → rowAt (rowsIn n s) i ≡ rowIn (drop (rowLength * i) s)
+unfolding rowsIn
+rows-at zero s i h = absurd (not-suc-le-zero h)
+rows-at (suc n) s zero h = refl
+rows-at (suc n) s (suc i) h = rows-at n (drop rowLength s) i (le-of-suc-le-suc h) ∙ ap rowIn (drop-drop (rowLength * i) rowLength s ∙ ap (λ (k : ℕ). drop k s) e)
+  where
+    e : rowLength + rowLength * i ≡ rowLength * suc i
+    e = omega arith
+
+pub table-at : (s : List ℕ) (i : ℕ) → i < rowCount (length s) → rowAt (tableIn s) i ≡ rowIn (drop (headLength + rowLength * i) s)
+unfolding tableIn
+table-at s i h = rows-at (rowCount (length s)) (drop headLength s) i h ∙ ap rowIn (drop-drop (rowLength * i) headLength s)
 
 -- one row more, at the end
 rows-more : (n : ℕ) (s : List ℕ) → rowsIn (suc n) s ≡ rowsIn n s ++ rowIn (drop (rowLength * n) s) ∷ []

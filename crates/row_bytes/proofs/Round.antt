@@ -1,5 +1,5 @@
 -- What is written reads back: a row's bytes have each number in its field, rows stand one behind the other, and the head has the length and the version.
--- So the byte form of an accepted table is refused by nothing. Assumes nothing.
+-- So the byte form of an accepted table is accepted. Assumes nothing.
 use Prim.Native.Nat.{ℕ, zero, suc, _+_, _*_, _^_, _<_, _≤_, suc-le-suc}
 use mathlib.Core.Path.{_≡_, refl, ap, ap₂, _∙_, sym}
 use mathlib.Core.List.{List, [], _∷_, _++_}
@@ -13,13 +13,12 @@ use lib.Signed.{mag}
 use Rattle.bigendian.specs.Fields.{fieldAt, signedAt}
 use Rattle.bigendian.proofs.Signs.{FitsBytes}
 use Rattle.bigendian.proofs.Fields.{number-back, signed-back}
-use Rattle.instants.proofs.FirstRefusal.{NoneApplies}
 use Rattle.rows.specs.declared.Row.{Row}
 use Rattle.rows.specs.Table.{row, rowAt, fewestRows, mostRows, largest, tableCases, AcceptedTable}
 use Rattle.rows.specs.Inner.{AcceptedRow}
 use Rattle.rows.proofs.Accepted.{accepted-row}
-use Rattle.row_bytes.proofs.Forms.{none-applies}
-use Rattle.row_bytes.specs.Form.{lengthField, versionField, version, headLength, dayField, xcField, xsField, uncertaintyField, rowLength, formLength, rowBytes, allBytes, tableBytes, atLeast0, rowIn, rowsIn, rowCount, tableIn, formCases, bytesCases}
+use Rattle.row_bytes.proofs.Forms.{bytes-accepted}
+use Rattle.row_bytes.specs.Form.{lengthField, versionField, version, headLength, dayField, xcField, xsField, uncertaintyField, rowLength, formLength, rowBytes, allBytes, tableBytes, atLeast0, rowIn, rowsIn, rowCount, tableIn, AcceptedBytes}
 
 -- ---- a row
 
@@ -108,10 +107,10 @@ module _ (rows : List Row) where
   unfolding tableBytes
   version-back = refl
 
-  -- PROMISE. And it is refused by nothing.
-  pub table-accepted : AcceptedTable rows → NoneApplies (bytesCases (tableBytes rows))
+  -- PROMISE. And it is accepted.
+  pub table-accepted : AcceptedTable rows → AcceptedBytes (tableBytes rows)
   table-accepted a =
-      none-applies (tableBytes rows)
+      bytes-accepted (tableBytes rows)
       (record {
         long = omega (arith, table-size);
         size = length-back a ∙ sym table-size;

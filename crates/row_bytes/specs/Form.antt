@@ -1,5 +1,6 @@
 -- The byte form of a table of rows, every number big-endian: written, read, and refused.
 use Prim.Native.Nat.{ℕ, zero, suc, _+_, _-_, _*_, _/_}
+use mathlib.Core.Path.{_≡_}
 use mathlib.Core.Bool.{not}
 use mathlib.Core.List.{List, [], _∷_, _++_}
 use lib.Dec.{eqb, ltb}
@@ -7,7 +8,7 @@ use lib.IntN.{ℤ, pos, negsuc}
 use lib.ListN.{length, drop}
 use Rattle.bigendian.specs.declared.Field.{Field}
 use Rattle.bigendian.specs.Fields.{field, fieldAt, signedAt, inField, signedIn}
-use Rattle.instants.specs.Refusals.{Case, case}
+use Rattle.instants.specs.Refusals.{Case, case, firstRefusal}
 use Rattle.rows.specs.declared.Row.{Row}
 use Rattle.rows.specs.Table.{row, fewestRows, mostRows, tableCases}
 
@@ -110,3 +111,7 @@ formCases s = lengthCases s ++ case 22 (not (eqb (fieldAt s versionField) versio
 -- of the bytes: the form, and the rules of a table
 abbrev pub bytesCases : List ℕ → List Case
 bytesCases s = formCases s ++ tableCases (tableIn s)
+
+-- bytes that are accepted: none of these applies
+abbrev pub AcceptedBytes : List ℕ → Type 0
+AcceptedBytes s = firstRefusal (bytesCases s) ≡ 0

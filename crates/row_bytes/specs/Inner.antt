@@ -1,5 +1,5 @@
 -- What only the contracts of the code's own functions cite.
-use Prim.Native.Nat.{ℕ}
+use Prim.Native.Nat.{ℕ, _+_, _*_}
 use mathlib.Core.Path.{_≡_}
 use mathlib.Core.List.{List, _++_}
 use lib.IntN.{ℤ}
@@ -11,6 +11,10 @@ use Rattle.rows.specs.Inner.{numbers}
 -- the first refusal of the form, or 0
 unfoldable pub formRefusal : List ℕ → ℕ
 formRefusal s = firstRefusal (formCases s)
+
+-- the number of four bytes, the highest first
+abbrev pub wordOf : ℕ → ℕ → ℕ → ℕ → ℕ
+wordOf a b c d = ((a * 256 + b) * 256 + c) * 256 + d
 
 -- the bytes s hold whole rows behind a head
 abbrev pub Whole : List ℕ → Type 0

@@ -2,18 +2,21 @@
 use bigendian::Field;
 use bigendian::field_at;
 ghost use mathlib.Core.Path.{_≡_};
-ghost use Prim.Native.Nat.{_+_, _≤_};
+ghost use Prim.Native.Nat.{_^_, _<_, _≤_};
 ghost use lib.IntN.{pos};
 ghost use lib.ListN.{length};
-ghost use Rattle.bigendian.specs.Fields.{signedAt};
+ghost use Rattle.bigendian.specs.Numbers.{signedOf};
 ghost use Rattle.row_bytes.specs.Form.{headLength, rowLength, atLeast0, rowIn, rowCount};
-ghost use Rattle.row_bytes.specs.Inner.{formRefusal, Whole, filled};
+ghost use Rattle.row_bytes.specs.Inner.{formRefusal, wordOf, Whole, filled};
 ghost use Rattle.rows.specs.Inner.{numbersOf};
 
 // The bytes of the head, and those of a row.
 const HEAD: usize = 3;
 
 const ROW: usize = 16;
+
+// The number of values of a byte.
+const BASE: u64 = 0x100;
 
 // The only version.
 const VERSION: u64 = 1;
@@ -27,15 +30,6 @@ pub const MOST: usize = 200;
 const LENGTH_FIELD: Field = Field { at: 0, size: 2 };
 
 const VERSION_FIELD: Field = Field { at: 2, size: 1 };
-
-// The fields of a row, from its first byte on.
-const DAY_FIELD: Field = Field { at: 0, size: 4 };
-
-const XC_FIELD: Field = Field { at: 4, size: 4 };
-
-const XS_FIELD: Field = Field { at: 8, size: 4 };
-
-const UNCERTAINTY_FIELD: Field = Field { at: 12, size: 4 };
 
 // The rows that n bytes hold behind a head.
 pub fn row_count(n: usize) -> usize
@@ -72,13 +66,19 @@ pub fn form(s: &[u8]) -> u32
     0
 }
 
-// The signed number in a field of four bytes.
-fn signed_at(s: &[u8], f: Field) -> i64
-    requires within { ⌜ f .at + f .size ≤ length (now s) ⌝ }
-    requires four { ⌜ f .size ≡ 4 ⌝ }
-    ensures { λ r. ⌜ r ≡ signedAt (now (s .entry)) f ⌝ }
+// The number of four bytes, the highest first.
+fn word(a: u8, b: u8, c: u8, d: u8) -> u64
+    ensures number { λ r. ⌜ r ≡ wordOf a b c d ⌝ }
+    ensures below { λ r. ⌜ r < 256 ^ 4 ⌝ }
 {
-    bigendian::signed_of(field_at(s, f)) as i64
+    (((a as u64) * BASE + b as u64) * BASE + c as u64) * BASE + d as u64
+}
+
+// The signed number of four bytes.
+fn signed_word(a: u8, b: u8, c: u8, d: u8) -> i64
+    ensures { λ r. ⌜ r ≡ signedOf 4 (wordOf a b c d) ⌝ }
+{
+    bigendian::signed_of(word(a, b, c, d)) as i64
 }
 
 // A number, or 0 for one that is below 0.
@@ -91,16 +91,16 @@ fn at_least_0(x: i64) -> i64
     x
 }
 
-// The four numbers of the row at the front of s.
+// The four numbers of the row at the front of s: the day, XC, XS and the uncertainty.
 fn row_numbers(s: &[u8]) -> [i64; 4]
     requires { ⌜ rowLength ≤ length (now s) ⌝ }
     ensures { λ r. ⌜ r ≡ numbersOf (rowIn (now (s .entry))) ⌝ }
 {
     [
-        field_at(s, DAY_FIELD) as i64,
-        signed_at(s, XC_FIELD),
-        signed_at(s, XS_FIELD),
-        at_least_0(signed_at(s, UNCERTAINTY_FIELD)),
+        word(s[0], s[1], s[2], s[3]) as i64,
+        signed_word(s[4], s[5], s[6], s[7]),
+        signed_word(s[8], s[9], s[10], s[11]),
+        at_least_0(signed_word(s[12], s[13], s[14], s[15])),
     ]
 }
 

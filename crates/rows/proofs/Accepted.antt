@@ -1,7 +1,7 @@
 -- The rules of a table: what its two tests say of each row, the built-in rows, and a table that is lent. A test over all rows that finds nothing finds
 -- nothing at each; rows that are written as numbers and read back are the same.
 -- Assumes nothing.
-use mathlib.Core.Path.{_≡_, refl, sym, _∙_, ap, subst}
+use mathlib.Core.Path.{_≡_, refl, sym, _∙_, ap, ap₂, subst}
 use mathlib.Core.Bool.{Bool, true, false, _||_}
 use mathlib.Core.Logic.{⊎-elim}
 use mathlib.Core.List.{List, [], _∷_}
@@ -10,7 +10,7 @@ use native.Mathlib.Nat as N
 use lib.Dec.{leb, ltb, lit≤}
 use lib.ListN.{length, getD}
 use lib.IntN.{ℤ, natAbs}
-use borrow.Author.Tests.{ltb-false, leb-false}
+use borrow.Author.Tests.{ltb-false, leb-false, le-ltb, lt-leb}
 use Rattle.instants.proofs.Accepted.{both-false}
 use Rattle.instants.proofs.FirstRefusal.{first-none}
 use Rattle.rows.specs.declared.Row.{Row}
@@ -27,6 +27,13 @@ none-at f (suc n) e i h =
     let o = both-false (f n) (someBelow n f) e in
     ⊎-elim (λ (p : i ≡ n). ap f p ∙ o .0) (λ p. none-at f n (o .1) i p) (N.eq-or-lt-of-le (N.le-of-suc-le-suc h))
 
+pub none-more : (f : ℕ → Bool) (n : ℕ) → someBelow n f ≡ false → f n ≡ false → someBelow (suc n) f ≡ false
+none-more f n e g = rw g e
+
+pub none-found : (f : ℕ → Bool) (n : ℕ) → ((i : ℕ) → i < n → f i ≡ false) → someBelow n f ≡ false
+none-found f zero h = refl
+none-found f (suc n) h = none-more f n (none-found f n (λ i k. h i (N.le-trans k (N.le-suc n)))) (h n (N.le-refl (suc n)))
+
 -- and one that finds something, or has found nothing so far
 pub some-at : (f : ℕ → Bool) (n i : ℕ) → i < n → f i ≡ true → someBelow n f ≡ true
 some-at f zero i h e = absurd (N.not-suc-le-zero h)
@@ -40,8 +47,10 @@ some-at f (suc n) i h e =
     second true e = refl
     second false e = e
 
-pub none-more : (f : ℕ → Bool) (n : ℕ) → someBelow n f ≡ false → f n ≡ false → someBelow (suc n) f ≡ false
-none-more f n e g = rw g e
+-- two tests that agree at each
+pub some-same : (f g : ℕ → Bool) (n : ℕ) → ((i : ℕ) → i < n → f i ≡ g i) → someBelow n f ≡ someBelow n g
+some-same f g zero h = refl
+some-same f g (suc n) h = ap₂ (λ (x y : Bool). x || y) (h n (N.le-refl (suc n))) (some-same f g n (λ i k. h i (N.le-trans k (N.le-suc n))))
 
 -- ---- what the tests say of an accepted table
 
@@ -67,6 +76,23 @@ module _ (rows : List Row) (a : AcceptedTable rows) where
   pub rising : (i : ℕ) → suc i < length rows → rowAt rows i .day < rowAt rows (suc i) .day
   unfolding daysWrong
   rising i h = leb-false (rowAt rows (suc i) .day) (rowAt rows i .day) (both-false (dayOut (rowAt rows (suc i))) (notAfter rows (suc i)) (none-at _ (length rows) (a .days) (suc i) h) .1)
+
+-- and rows within their limits whose days rise are accepted
+pub accepted-rows : (rows : List Row) → fewestRows ≤ length rows → length rows ≤ mostRows → ((i : ℕ) → i < length rows → AcceptedRow (rowAt rows i))
+    → ((i : ℕ) → suc i < length rows → rowAt rows i .day < rowAt rows (suc i) .day) → AcceptedTable rows
+unfolding daysWrong numbersWrong
+accepted-rows rows h k a u = record {
+  fewest = h;
+  most = k;
+  days = none-found _ (length rows) (λ i l. day i l);
+  numbers = none-found _ (length rows) (λ i l.
+      let r = a i l in
+      rw (le-ltb _ _ (r .xc-small), le-ltb _ _ (r .xs-small), le-ltb (rowAt rows i .uncertainty) 1 (r .uncertainty-positive), le-ltb _ _ (r .uncertainty-small)) refl);
+}
+  where
+    day : (i : ℕ) → i < length rows → (dayOut (rowAt rows i) || notAfter rows i) ≡ false
+    day zero l = rw (le-ltb _ _ (a zero l .from), le-ltb _ _ (a zero l .to)) refl
+    day (suc i) l = rw (le-ltb _ _ (a (suc i) l .from), le-ltb _ _ (a (suc i) l .to)) (lt-leb _ _ (u i l))
 
 -- the built-in rows keep the rules
 pub builtIn-accepted : AcceptedTable builtIn

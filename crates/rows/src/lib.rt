@@ -2,7 +2,7 @@
 // Derived from the IERS routine FCNNUT; not IERS Conventions software (NOTICE, docs/DIFFERENCES.md).
 use instants::INDEX_OFFSET;
 ghost use mathlib.Core.Path.{_≡_};
-ghost use mathlib.Core.Bool.{_||_};
+ghost use mathlib.Core.Bool.{cond, _||_};
 ghost use lib.Dec.{ltb};
 ghost use lib.IntN.{natAbs};
 ghost use Prim.Native.Nat.{_<_};
@@ -171,18 +171,25 @@ fn numbers_wrong(t: &[[i64; 4]]) -> bool
     false
 }
 
-// The refusal of the rows of a table that is lent, or 0: all days are tested, then all amplitudes and uncertainties.
+// The refusal for days, else for numbers, or 0.
+fn first_of(days: bool, numbers: bool) -> u32
+    ensures { λ r. ⌜ r ≡ cond days 23 (cond numbers 24 0) ⌝ }
+{
+    if days {
+        return 23;
+    }
+    if numbers {
+        return 24;
+    }
+    0
+}
+
+// The refusal of the rows of a table that is lent, or 0: each is looked for in all rows.
 pub fn refusal(t: &[[i64; 4]]) -> u32
     requires { ⌜ OfRows (now t) ⌝ }
     ensures { λ r. ⌜ r ≡ tableRefusal (rowsOf (now (t .entry))) ⌝ }
 {
-    if days_wrong(t) {
-        return 23;
-    }
-    if numbers_wrong(t) {
-        return 24;
-    }
-    0
+    first_of(days_wrong(t), numbers_wrong(t))
 }
 
 // The index of the last row that is dated at or before a moment, which is neither before the first row nor at or after the last.

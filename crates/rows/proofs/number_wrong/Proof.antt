@@ -1,6 +1,7 @@
 -- `rows::number_wrong` meets its contract: each return has the tests that led there. Assumes nothing.
 use mathlib.Core.Path.{_≡_, sym, _∙_, ap}
 use mathlib.Core.Bool.{true, false}
+use native.Mathlib.Omega.{arith}
 use lib.Dec.{ltb}
 use lib.IntN.{ℤ, natAbs}
 use mir.Syntax.{w64}
@@ -46,7 +47,7 @@ returns-2 : tie.Need-returns-2
 returns-2 c = xs-out (c .before .before .before .before .before .before .args .r) (xc-small (c .before .before .before)) (sym (xs-is (c .before)) ∙ c .if2 .taken)
 
 returns-3 : tie.Need-returns-3
-returns-3 c = let e : tie.Else2 = c .before .before in no-uncertainty (else1 e .before .before .before .args .r) (xc-small (else1 e)) (xs-small e) (c .if3 .taken)
+returns-3 c = let e : tie.Else2 = c .before .before in no-uncertainty (else1 e .before .before .before .args .r) (xc-small (else1 e)) (xs-small e) (omega (arith, c .if3 .taken))
 
 cast-result : tie.Need-cast-result
 cast-result c = search needs
@@ -55,7 +56,7 @@ returns-4 : tie.Need-returns-4
 returns-4 c =
     let l : tie.Else3 = c .before in
     let e : tie.Else2 = l .before .before in
-    uncertainty-out (else1 e .before .before .before .args .r) (xc-small (else1 e)) (xs-small e) (l .if3 .left)
+    uncertainty-out (else1 e .before .before .before .args .r) (xc-small (else1 e)) (xs-small e) (omega (arith, l .if3 .left))
 
 pub number-wrong-spec : {M : Type 1} → statement M
 number-wrong-spec =

@@ -1,5 +1,7 @@
--- `rows::refusal` meets its contract: each return has the tests that led there. Assumes nothing.
-use mathlib.Core.Path.{sym, _∙_}
+-- `rows::refusal` meets its contract. Assumes nothing.
+use Prim.Native.Nat.{ℕ}
+use mathlib.Core.Path.{_∙_, ap₂}
+use mathlib.Core.Bool.{Bool, cond}
 use Rattle.rows.specs.Inner.{tableRefusal}
 use borrow.Author.Needs.{needs}
 use Rattle.rows.proofs.refusal.Statement.{statement}
@@ -8,25 +10,18 @@ use Rattle.rows.proofs.refusal.Tie as tie
 days-wrong-requires : tie.Need-days-wrong-requires
 days-wrong-requires c κs = search needs
 
-returns : tie.Need-returns
-unfolding tableRefusal
-returns c = simp (sym (c .before .days-wrong .ensures) ∙ c .if1 .taken)
-
 numbers-wrong-requires : tie.Need-numbers-wrong-requires
 numbers-wrong-requires c κs = search needs
 
-returns-2 : tie.Need-returns-2
-unfolding tableRefusal
-returns-2 c =
-    let e : tie.Else1 = c .before .before in
-    simp (sym (e .before .days-wrong .ensures) ∙ e .if1 .left, sym (c .before .numbers-wrong .ensures) ∙ c .if2 .taken)
+first-of-requires : tie.Need-first-of-requires
+first-of-requires c κs = search needs
 
-returns-3 : tie.Need-returns-3
+returns : tie.Need-returns
 unfolding tableRefusal
-returns-3 c =
-    let e : tie.Else1 = c .before .before in
-    simp (sym (e .before .days-wrong .ensures) ∙ e .if1 .left, sym (c .before .numbers-wrong .ensures) ∙ c .if2 .left)
+returns c =
+    let n : tie.After-numbers-wrong = c .before in
+    c .first-of .ensures ∙ ap₂ {C = ℕ} (λ (x y : Bool). cond x 23 (cond y 24 0)) (n .before .days-wrong .ensures) (n .numbers-wrong .ensures)
 
 pub refusal-spec : {M : Type 1} → statement M
 refusal-spec =
-    tie.close (tie.spec days-wrong-requires returns numbers-wrong-requires returns-2 returns-3)
+    tie.close (tie.spec days-wrong-requires numbers-wrong-requires first-of-requires returns)
