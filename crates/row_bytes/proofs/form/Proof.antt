@@ -10,7 +10,7 @@ use borrow.Author.Tests.{lt-ltb, le-ltb, eq-eqb, ne-eqb}
 use denote.Ref.{now}
 use Rattle.bigendian.specs.Fields.{fieldAt}
 use Rattle.rows.specs.Table.{fewestRows, mostRows}
-use Rattle.row_bytes.specs.Form.{headLength, rowLength, formLength, rowCount, lengthField}
+use Rattle.row_bytes.specs.Form.{headLength, rowLength, formLength, rowCount, lengthField, versionField, version}
 use Rattle.row_bytes.specs.Inner.{formRefusal}
 use borrow.Author.Needs.{needs}
 use Rattle.row_bytes.proofs.form.Statement.{statement}
@@ -44,7 +44,10 @@ has-head : (c : tie.Else1) → ltb (length (bytes c)) headLength ≡ false
 has-head c = le-ltb _ _ (c .if1 .left)
 
 is-length : (c : tie.Else2) → eqb (fieldAt (bytes (else1 c)) lengthField) (length (bytes (else1 c))) ≡ true
-is-length c = eq-eqb _ _ (sym (c .before .field-at .ensures .0) ∙ c .if2 .left)
+is-length c = eq-eqb _ _ e
+  where
+    e : fieldAt (bytes (else1 c)) lengthField ≡ length (bytes (else1 c))
+    e = omega (arith, c .before .field-at .ensures .0, c .if2 .left)
 
 enough : (c : tie.Else3) → ltb (rowCount (length (counting (counted c)))) fewestRows ≡ false
 enough c = le-ltb (rowCount (length (counting (counted c)))) fewestRows (omega (arith, counted c .row-count .ensures, c .if3 .left))
@@ -53,7 +56,13 @@ few : (c : tie.Else4) → ltb mostRows (rowCount (length (counting (counted (els
 few c = le-ltb mostRows (rowCount (length (counting (counted (else3 c))))) (omega (arith, counted (else3 c) .row-count .ensures, c .if4 .left))
 
 right : (c : tie.Else5) → eqb (length (counting (counted (else3 (else4 c))))) (formLength (rowCount (length (counting (counted (else3 (else4 c))))))) ≡ true
-right c = eq-eqb _ _ (c .if5 .left ∙ whole (counted (else3 (else4 c))))
+right c = eq-eqb _ _ e
+  where
+    e : length (counting (counted (else3 (else4 c)))) ≡ formLength (rowCount (length (counting (counted (else3 (else4 c))))))
+    e = omega (arith, c .if5 .left, whole (counted (else3 (else4 c))))
+
+is-version : (c : tie.Else6) → fieldAt (counting (counted (else3 (else4 (c .before .before))))) versionField ≡ version
+is-version c = omega (arith, c .before .field-at2 .ensures .0, c .if6 .left)
 
 returns : tie.Need-returns
 unfolding formRefusal
@@ -113,7 +122,7 @@ returns-7 c =
     let n : tie.Else5 = c .before .before in
     let l = else3 (else4 n) in
     let e : tie.Else2 = counted l .before in
-    simp (has-head (else1 e), is-length e, enough l, few (else4 n), right n, eq-eqb _ _ (sym (c .before .field-at2 .ensures .0) ∙ c .if6 .left))
+    simp (has-head (else1 e), is-length e, enough l, few (else4 n), right n, eq-eqb _ _ (is-version c))
 
 pub form-spec : {M : Type 1} → statement M
 form-spec =
