@@ -226,9 +226,9 @@ fn answer_of(t: &[[i64; 4]], day: i64, micros: u64) -> NutationAnswer
     requires table { ⌜ OfRows (now t) ⌝ }
     ensures { λ r. ⌜ r ≡ refusedOr NoNutation (tableCases (rowsOf (now (t .entry)))) (nutationWith (rowsOf (now (t .entry))) day micros) ⌝ }
 {
-    let n = rows::refusal(t);
-    if n != 0 {
-        return NutationAnswer::NoNutation(n);
+    let refusal = rows::refusal(t);
+    if refusal != 0 {
+        return NutationAnswer::NoNutation(refusal);
     }
     nutation_with(t, day, micros)
 }

@@ -36,7 +36,8 @@ returns c =
     let fv : SFits w64 (v .signed-word2 .result) = search needs in
     let fu : SFits w64 (u .signed-word3 .result) = search needs in
     let fc : SFits w64 (c .at-least-0 .result) = search needs in
-    four (toZ-pos w64 l ∙ ap pos (d .word .ensures .0 ∙ word-is s 0))
+    let day : d .word .result ≡ numberAt s 0 4 = omega (arith, d .word .ensures .0) in
+    four (toZ-pos w64 l ∙ ap pos day)
     (toZ-ofZ fw ∙ (w .signed-word .ensures ∙ ap (signedOf 4) (word-is s 4)))
     (toZ-ofZ fv ∙ (v .signed-word2 .ensures ∙ ap (signedOf 4) (word-is s 8)))
     (toZ-ofZ fc ∙ (c .at-least-0 .ensures ∙ ap (λ (z : ℤ). pos (atLeast0 z)) (toZ-ofZ fu ∙ (u .signed-word3 .ensures ∙ ap (signedOf 4) (word-is s 12)))))

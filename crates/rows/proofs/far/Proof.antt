@@ -1,6 +1,6 @@
 -- `rows::far` meets its contract: below the largest on the negative side, else above it. Assumes nothing.
 use mathlib.Core.Path.{_≡_, sym, _∙_, ap}
-use mathlib.Core.Bool.{Bool}
+use mathlib.Core.Bool.{true, false}
 use Prim.Native.Nat.{_-_}
 use lib.IntN.{ℤ, pos, negsuc}
 use lib.Signed.{ltZ}
@@ -25,12 +25,16 @@ sub-if1 : tie.Need-sub-if1
 sub-if1 c = search needs
 
 returns : tie.Need-returns
-returns c = let s = c .before in sym (far-below (largest - 1) (s .args .x) (sym (below s) ∙ c .if1 .taken))
+returns c =
+    let s = c .before in
+    let e : ltZ (toZ w64 (ofZ w64 (s .args .x))) (negsuc (largest - 1)) ≡ true = c .if1 .taken in
+    sym (far-below (largest - 1) (s .args .x) (sym (below s) ∙ e))
 
 returns-2 : tie.Need-returns-2
 returns-2 c =
     let s = c .before in
-    ap (ltZ (pos largest)) (reads s) ∙ far-above (largest - 1) (s .args .x) (sym (below s) ∙ c .if1 .left)
+    let e : ltZ (toZ w64 (ofZ w64 (s .args .x))) (negsuc (largest - 1)) ≡ false = c .if1 .left in
+    ap (ltZ (pos largest)) (reads s) ∙ far-above (largest - 1) (s .args .x) (sym (below s) ∙ e)
 
 pub far-spec : {M : Type 1} → statement M
 far-spec = tie.close (tie.spec sub-if1 returns returns-2)

@@ -34,7 +34,7 @@ loop-holds : tie.Need-loop-holds Inv-loop μ-loop
 loop-holds c = (omega arith, refl)
 
 row-at-requires : tie.Need-row-at-requires Inv-loop μ-loop
-row-at-requires c κs = (c .loop-test .taken, c .before .before .pre)
+row-at-requires c κs = (omega (arith, c .loop-test .taken), c .before .before .pre)
 
 number-wrong-requires : tie.Need-number-wrong-requires Inv-loop μ-loop
 number-wrong-requires c κs = tt
