@@ -13,7 +13,7 @@ from collections import defaultdict
 from fnmatch import fnmatchcase
 from pathlib import Path
 
-DOCUMENTS = ["PROMISES", "RULES", "DECISIONS", "WRONG_PROGRAMS"]
+DOCUMENTS = ["PROMISES", "RULES", "DECISIONS", "WRONG_PROGRAMS", "WRONG_CALLS"]
 # words in backticks that are no names of ours: keywords, the C library's, the kit's, what the program writes, placeholders
 NO_NAMES = {"requires", "fmod", "must-fail", "RT_JOBS", "refused", "count", "NoX", "_"}
 # folders that are made or installed, and not kept

@@ -2,25 +2,27 @@
 -- bytes. Assumes nothing.
 use Prim.Native.Nat.{ℕ, zero, suc, _+_, _-_, _*_, _/_, _%_, _≤_, _<_}
 use mathlib.Core.Path.{_≡_, refl, sym, _∙_, ap, ap₂}
-use mathlib.Core.Bool.{Bool, true, false, cond, not, _&&_, _||_}
+use mathlib.Core.Bool.{Bool, true, false, true≢false, cond, not, _&&_, _||_}
 use mathlib.Core.List.{List, [], _∷_, _++_}
 use native.Mathlib.Nat as N
 use native.Mathlib.Omega.{arith}
-use native.Mathlib.Decide.{decLe, ℕ-discrete}
+use native.Mathlib.Decide.{decLe}
 use lib.Dec.{ltb, leb, eqb}
 use lib.IntN.{ℤ, pos, negsuc, natAbs, negℤ}
 use lib.ListN.{length, drop}
 use lib.Signed.{ltZ}
-use borrow.Author.Tests.{lt-ltb, le-ltb, le-leb, lt-leb, eq-eqb, ne-eqb}
+use borrow.Author.Tests.{ltb-false, leb-true, eqb-true, not-false, lt-ltb, le-ltb, le-leb, eq-eqb}
 use Rattle.bigendian.specs.Numbers.{numberAt, signedOf}
+use Rattle.bigendian.specs.Fields.{fieldAt}
 use Rattle.bigendian.proofs.Numbers.{number-drop}
 use Rattle.instants.specs.Refusals.{Case, case, firstRefusal}
 use Rattle.instants.specs.Instants.{instantCases}
+use Rattle.instants.proofs.Accepted.{both-false}
 use Rattle.instants.proofs.FirstRefusal.{handed-on}
 use Rattle.rows.specs.declared.Row.{Row}
 use Rattle.rows.specs.Table.{rowAt, dayOut, notAfter, numberOut, someBelow, daysWrong, numbersWrong, tableCases}
 use Rattle.rows.proofs.Accepted.{some-same}
-use Rattle.row_bytes.specs.Form.{headLength, rowLength, formLength, atLeast0, rowIn, rowsIn, rowCount, tableIn, formCases, bytesCases}
+use Rattle.row_bytes.specs.Form.{versionField, version, headLength, rowLength, formLength, atLeast0, rowIn, rowsIn, rowCount, tableIn, formCases, bytesCases}
 use Rattle.row_bytes.proofs.Reading.{table-count, table-at}
 use Rattle.nutation.specs.declared.NutationAnswer.the-variants.{NoNutation}
 use Rattle.nutation.specs.Ours.{nutationRowsOf, nutationRefusalOf}
@@ -28,20 +30,45 @@ use Rattle.promises.specs.AnyInput.{tableLength, tableRows, tableDay, ta
 
 -- ---- the length
 
--- five tests of the definition, the last three of which are one of the figures
-lengths : (n : ℕ) → (ltb (rowCount n) 2 || (ltb 200 (rowCount n) || not (eqb n (formLength (rowCount n))))) ≡ not (tableLength n)
-lengths n = by (decLe 35 n) (decLe n 3203) (ℕ-discrete (n % 16) 3) (decLe 201 (rowCount n))
-  where
-    by : Dec (35 ≤ n) → Dec (n ≤ 3203) → Dec (n % 16 ≡ 3) → Dec (201 ≤ rowCount n)
-        → (ltb (rowCount n) 2 || (ltb 200 (rowCount n) || not (eqb n (formLength (rowCount n))))) ≡ not (tableLength n)
-    by (no p) q r l = rw (lt-ltb (rowCount n) 2 (omega (arith, p)), lt-leb 35 n (omega (arith, p))) refl
-    by (yes p) (no q) r (yes l) = rw (le-ltb (rowCount n) 2 (omega (arith, p)), lt-ltb 200 (rowCount n) l, le-leb 35 n p, lt-leb n 3203 (omega (arith, q))) refl
-    by (yes p) (no q) r (no l) =
-        rw (le-ltb (rowCount n) 2 (omega (arith, p)), le-ltb 200 (rowCount n) (omega (arith, l)), ne-eqb n (formLength (rowCount n)) (λ e. omega (arith, e, q, l)), le-leb 35 n p, lt-leb n 3203 (omega (arith, q))) refl
-    by (yes p) (yes q) (no r) l =
-        rw (le-ltb (rowCount n) 2 (omega (arith, p)), le-ltb 200 (rowCount n) (omega (arith, q)), ne-eqb n (formLength (rowCount n)) (λ e. r (omega (arith, e))), le-leb 35 n p, le-leb n 3203 q, ne-eqb (n % 16) 3 r) refl
-    by (yes p) (yes q) (yes r) l =
-        rw (le-ltb (rowCount n) 2 (omega (arith, p)), le-ltb 200 (rowCount n) (omega (arith, q)), eq-eqb n (formLength (rowCount n)) (omega (arith, r)), le-leb 35 n p, le-leb n 3203 q, eq-eqb (n % 16) 3 r) refl
+both-true : (a b : Bool) → (a && b) ≡ true → (a ≡ true) × (b ≡ true)
+both-true true b e = (refl, e)
+both-true false b e = (e, absurd (true≢false (sym e)))
+
+-- of the five tests of the definition the last three are one of the figures
+module _ (n : ℕ) where
+  abbrev otherLength : Bool
+  otherLength = ltb (rowCount n) 2 || (ltb 200 (rowCount n) || not (eqb n (formLength (rowCount n))))
+
+  -- a length of the figures is one of the definition
+  table : tableLength n ≡ true → otherLength ≡ false
+  table e =
+      let p = both-true (leb 35 n) (leb n 3203 && eqb (n % 16) 3) e in
+      let q = both-true (leb n 3203) (eqb (n % 16) 3) (p .1) in
+      let l : 35 ≤ n = leb-true _ _ (p .0) in
+      let h : n ≤ 3203 = leb-true _ _ (q .0) in
+      let r : n % 16 ≡ 3 = eqb-true _ _ (q .1) in
+      rw (le-ltb (rowCount n) 2 (omega (arith, l, r)), le-ltb 200 (rowCount n) (omega (arith, h, r)), eq-eqb n (formLength (rowCount n)) (omega (arith, l, r))) refl
+
+  -- and the other way round
+  back : otherLength ≡ false → tableLength n ≡ true
+  back e =
+      let p = both-false (ltb (rowCount n) 2) _ e in
+      let q = both-false (ltb 200 (rowCount n)) _ (p .1) in
+      let l : 2 ≤ rowCount n = ltb-false _ _ (p .0) in
+      let h : rowCount n ≤ 200 = ltb-false _ _ (q .0) in
+      let w : n ≡ formLength (rowCount n) = eqb-true _ _ (not-false _ (q .1)) in
+      rw (le-leb 35 n (omega (arith, l, w)), le-leb n 3203 (omega (arith, h, w)), eq-eqb (n % 16) 3 (omega (arith, w))) refl
+
+  lengths : otherLength ≡ not (tableLength n)
+  lengths = by (tableLength n) refl
+    where
+      otherwise : (o : Bool) → otherLength ≡ o → tableLength n ≡ false → o ≡ true
+      otherwise true q e = refl
+      otherwise false q e = absurd (true≢false (sym (back q) ∙ e))
+
+      by : (t : Bool) → tableLength n ≡ t → otherLength ≡ not t
+      by true e = table e
+      by false e = otherwise otherLength refl e
 
 -- five cases of one number are one
 five : (a b c d e : Bool) (n x : ℕ) → cond a n (cond b n (cond c n (cond d n (cond e n x)))) ≡ cond (a || (b || (c || (d || e)))) n x
@@ -119,14 +146,18 @@ numbers s =
 
 -- ---- all of them
 
+versions : (s : List ℕ) → case 22 (not (eqb (fieldAt s versionField) version)) ≡ refusal22 s
+versions s = refl
+
 figures : (s : List ℕ) (d : ℤ) (m : ℕ) → firstRefusal (bytesCases s ++ instantCases d m) ≡ firstRefusal (refusal21 s ∷ refusal22 s ∷ refusal23 s ∷ refusal24 s ∷ instantCases d m)
 figures s d m =
     let n : ℕ = length s in
     let a : Bool = ltb n 3 in
     let b : Bool = not (eqb (numberAt s 0 2) n) in
-    let behind : ℕ = firstRefusal (refusal22 s ∷ tableCases (tableIn s) ++ instantCases d m) in
+    let behind : ℕ = firstRefusal (case 22 (not (eqb (fieldAt s versionField) version)) ∷ tableCases (tableIn s) ++ instantCases d m) in
     five a b (ltb (rowCount n) 2) (ltb 200 (rowCount n)) (not (eqb n (formLength (rowCount n)))) 21 behind
     ∙ ap (λ (t : Bool). cond (a || (b || t)) 21 behind) (lengths n)
+    ∙ ap (λ (c : Case). firstRefusal (refusal21 s ∷ c ∷ tableCases (tableIn s) ++ instantCases d m)) (versions s)
     ∙ ap₂ (λ (x y : Bool). firstRefusal (refusal21 s ∷ refusal22 s ∷ case 23 x ∷ case 24 y ∷ instantCases d m)) (days s) (numbers s)
 
 pub handed-rows : (s : List ℕ) (d : ℤ) (m : ℕ) → nutationRefusalOf (nutationRowsOf s d m) ≡ firstRefusal (bytesCases s ++ instantCases d m)

@@ -1,3 +1,3 @@
--- A table of rows as bytes. Read Form, then Reading; Inner serves the code's own contracts.
+-- A table of rows as bytes. Read Form; Inner serves the code's own contracts.
 pub mod Form
 pub mod Inner

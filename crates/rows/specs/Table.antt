@@ -59,17 +59,19 @@ abbrev pub someBelow : ℕ → (ℕ → Bool) → Bool
 someBelow zero f = false
 someBelow (suc n) f = f n || someBelow n f
 
--- 23 for some row's day, 24 for some row's numbers: each is looked for in all rows before the next
+-- some row's day is out of its limits, or not after the one before
 unfoldable pub daysWrong : List Row → Bool
 daysWrong rows = someBelow (length rows) (λ i. dayOut (rowAt rows i) || notAfter rows i)
 
+-- some row's amplitude or uncertainty is out of its limits
 unfoldable pub numbersWrong : List Row → Bool
 numbersWrong rows = someBelow (length rows) (λ i. numberOut (rowAt rows i))
 
+-- the refusals, each looked for in all rows before the next
 abbrev pub tableCases : List Row → List Case
 tableCases rows = case 23 (daysWrong rows) ∷ case 24 (numbersWrong rows) ∷ []
 
--- a table that is accepted: 2 to 200 rows, and neither refusal
+-- a table that is accepted: as many rows as a table has, and neither refusal
 pub record AcceptedTable (rows : List Row) : Type 0 where
   pub fewest : fewestRows ≤ length rows
   pub most : length rows ≤ mostRows
