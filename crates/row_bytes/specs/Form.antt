@@ -34,13 +34,15 @@ headLength = 3
 abbrev pub dayField : Field
 dayField = field 0 4
 
--- XC, XS and the uncertainty in hundredths of a microarcsecond, signed
+-- XC in hundredths of a microarcsecond, signed
 abbrev pub xcField : Field
 xcField = field 4 4
 
+-- XS, in the same way
 abbrev pub xsField : Field
 xsField = field 8 4
 
+-- and the uncertainty
 abbrev pub uncertaintyField : Field
 uncertaintyField = field 12 4
 
