@@ -8,7 +8,8 @@ use lib.ListN.{length, take, drop}
 use lib.Seq.{take-add}
 use Rattle.bigendian.specs.declared.Field.{Field}
 use Rattle.bigendian.specs.Numbers.{Bytes, numberAt, twosComplement, signedOf}
-use Rattle.bigendian.specs.Fields.{fieldAt, signedAt, inField, signedIn, withField}
+use Rattle.bigendian.specs.Fields.{fieldAt, signedAt, inField, signedIn}
+use Rattle.bigendian.specs.Inner.{withField}
 use Rattle.bigendian.proofs.Numbers.{bytes-number, number-bytes}
 use Rattle.bigendian.proofs.Signs.{FitsBytes, read-signed, signed-bytes}
 

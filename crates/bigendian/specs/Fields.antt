@@ -1,8 +1,7 @@
 -- The fields of a byte form: each number has its place.
-use Prim.Native.Nat.{ℕ, _+_}
-use mathlib.Core.List.{List, _++_}
+use Prim.Native.Nat.{ℕ}
+use mathlib.Core.List.{List}
 use lib.IntN.{ℤ}
-use lib.ListN.{take, drop}
 use Rattle.bigendian.specs.declared.Field.{Field}
 use Rattle.bigendian.specs.Numbers.{bytesOf, numberAt, twosComplement, signedOf}
 
@@ -25,7 +24,3 @@ inField f n = bytesOf (f .size) n
 -- a field's bytes for a signed number
 abbrev pub signedIn : Field → ℤ → List ℕ
 signedIn f z = inField f (twosComplement (f .size) z)
-
--- s with the number n in a field
-abbrev pub withField : List ℕ → Field → ℕ → List ℕ
-withField s f n = take (f .at) s ++ (inField f n ++ drop (f .at + f .size) s)

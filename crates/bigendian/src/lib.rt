@@ -6,7 +6,8 @@ ghost use lib.ListN.{length, take, drop};
 ghost use mir.Syntax.{w32};
 ghost use mir.Val.{SFits};
 ghost use Rattle.bigendian.specs.Numbers.{bytesOf, numberAt, wordSum, twosComplement, signedOf};
-ghost use Rattle.bigendian.specs.Fields.{fieldAt, withField};
+ghost use Rattle.bigendian.specs.Fields.{fieldAt};
+ghost use Rattle.bigendian.specs.Inner.{withField};
 
 // The place of a number in a byte form: its first byte, and its number of bytes.
 pub struct Field {

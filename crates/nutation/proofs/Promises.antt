@@ -1,4 +1,4 @@
--- What is promised of the answers: where they are given and how near they are, and that no constant would do.
+-- What is promised of the answers: where they are given, how near they are, that both editions answer alike, and that no constant would do.
 -- Assumes nothing.
 use mathlib.Core.Path.{_≡_, refl, sym, _∙_, ap}
 use mathlib.Core.List.{List}

@@ -1,4 +1,5 @@
--- The offsets of the free core nutation, at a place among the rows (crate rows). Read Exact, Ours and Claims; Inner serves the code's own contracts.
+-- The offsets of the free core nutation, at a place among rows (crate rows) that are built in or read from bytes (crate row_bytes). Read Exact, Ours and
+-- Claims; Inner serves the code's own contracts.
 pub mod Exact
 pub mod Ours
 pub mod Claims

@@ -34,7 +34,7 @@ pub struct Offsets {
     pub uncertainty: u64,
 }
 
-// The offsets, or refusal 8 or 9.
+// The offsets, or a refusal number.
 pub enum NutationAnswer {
     Nutation(Offsets),
     NoNutation(u32),
@@ -233,7 +233,7 @@ fn answer_of(t: &[[i64; 4]], day: i64, micros: u64) -> NutationAnswer
     nutation_with(t, day, micros)
 }
 
-// With the rows in the bytes s, or refusal 21 to 24.
+// With the rows in the bytes s, or refusal 21 to 24, then 8 or 9.
 pub fn nutation_rows_of(s: &[u8], day: i64, micros: u64) -> NutationAnswer
     ensures { λ r. ⌜ r ≡ nutationRowsOf (now (s .entry)) day micros ⌝ }
 {

@@ -1,14 +1,14 @@
 -- The refusals of rows from the caller, in the figures of specs/AnyInput.antt: the lengths that a table may have, and each number at its place in the
 -- bytes. Assumes nothing.
-use Prim.Native.Nat.{ℕ, zero, suc, _+_, _-_, _*_, _/_, _%_, _≤_, _<_}
+use Prim.Native.Nat.{ℕ, zero, suc, _+_, _-_, _*_, _%_, _≤_, _<_}
 use mathlib.Core.Path.{_≡_, refl, sym, _∙_, ap, ap₂}
 use mathlib.Core.Bool.{Bool, true, false, true≢false, cond, not, _&&_, _||_}
-use mathlib.Core.List.{List, [], _∷_, _++_}
+use mathlib.Core.List.{List, _∷_, _++_}
 use native.Mathlib.Nat as N
 use native.Mathlib.Omega.{arith}
 use native.Mathlib.Decide.{decLe}
 use lib.Dec.{ltb, leb, eqb}
-use lib.IntN.{ℤ, pos, negsuc, natAbs, negℤ}
+use lib.IntN.{ℤ, pos, negsuc, natAbs}
 use lib.ListN.{length, drop}
 use lib.Signed.{ltZ}
 use borrow.Author.Tests.{ltb-false, leb-true, eqb-true, not-false, lt-ltb, le-ltb, le-leb, eq-eqb}
@@ -22,7 +22,7 @@ use Rattle.instants.proofs.FirstRefusal.{handed-on}
 use Rattle.rows.specs.declared.Row.{Row}
 use Rattle.rows.specs.Table.{rowAt, dayOut, notAfter, numberOut, someBelow, daysWrong, numbersWrong, tableCases}
 use Rattle.rows.proofs.Accepted.{some-same}
-use Rattle.row_bytes.specs.Form.{versionField, version, headLength, rowLength, formLength, atLeast0, rowIn, rowsIn, rowCount, tableIn, formCases, bytesCases}
+use Rattle.row_bytes.specs.Form.{versionField, version, headLength, rowLength, formLength, atLeast0, rowIn, rowCount, tableIn, bytesCases}
 use Rattle.row_bytes.proofs.Reading.{table-count, table-at}
 use Rattle.nutation.specs.declared.NutationAnswer.the-variants.{NoNutation}
 use Rattle.nutation.specs.Ours.{nutationRowsOf, nutationRefusalOf}

@@ -2,7 +2,8 @@
 -- the call of one number gives 0, the call of the whole answer leaves every number as it stood, and no lent byte changes; without one the whole answer
 -- leaves the numbers that their own calls give. That each exported call gives these for every input is its contract (crates/enfysgar/src).
 -- The rules are written out here a second time, with their figures and apart from the lists and limits of the definitions (the length of a month, the
--- mark, numbers and sums in bytes and a later day are theirs): first when each refusal is given, then for each service its refusals in their order.
+-- mark, numbers and sums in bytes, that some row of a table has a fault, and a later day are theirs): first when each refusal is given, then for each
+-- service its refusals in their order.
 use Prim.Native.Nat.{ℕ, _+_, _-_, _*_, _/_, _%_}
 use mathlib.Core.Path.{_≡_}
 use mathlib.Core.Bool.{Bool, cond, not, _&&_, _||_}
@@ -108,6 +109,42 @@ refusal17 count = case 17 (ltb count 1 || ltb 96 count)
 abbrev pub refusal18 : ℕ → Case
 refusal18 step = case 18 (ltb step 1 || ltb 86_400_000_000 step)
 
+-- the 27 days that have a second 60, in their last minute
+unfoldable pub daysWithSecond60 : List Date
+daysWithSecond60 =
+    date 1972 6 30 ∷ date 1972 12 31 ∷ date 1973 12 31 ∷ date 1974 12 31 ∷ date 1975 12 31 ∷ date 1976 12 31 ∷ date 1977 12 31 ∷ date 1978 12 31 ∷ date 1979 12 31
+    ∷ date 1981 6 30 ∷ date 1982 6 30 ∷ date 1983 6 30 ∷ date 1985 6 30 ∷ date 1987 12 31 ∷ date 1989 12 31 ∷ date 1990 12 31 ∷ date 1992 6 30 ∷ date 1993 6 30
+    ∷ date 1994 6 30 ∷ date 1995 12 31 ∷ date 1997 6 30 ∷ date 1998 12 31 ∷ date 2005 12 31 ∷ date 2008 12 31 ∷ date 2012 6 30 ∷ date 2015 6 30 ∷ date 2016 12 31 ∷ []
+
+-- the second of a UTC reading
+abbrev pub refusal6-utc : (y m d hour minute second : ℕ) → Case
+refusal6-utc y m d hour minute second = case 6 (ltb (cond ((eqb hour 23 && eqb minute 59) && oneOf y m d daysWithSecond60) 60 59) second)
+
+-- a UTC date before the list of leap seconds begins, and one from which on it has expired
+abbrev pub refusal19-utc : (y m d : ℕ) → Case
+refusal19-utc y m d = case 19 (earlier y m d (date 1972 1 1))
+
+abbrev pub refusal20-utc : (y m d : ℕ) → Case
+refusal20-utc y m d = case 20 (not (earlier y m d (date 2025 6 28)))
+
+-- the refusals of a UTC reading
+abbrev pub readingRefusals : Reading → List Case
+readingRefusals r =
+    refusal1 (r .year) ∷ refusal2 (r .month) ∷ refusal3 (r .year) (r .month) (r .day) ∷ refusal4 (r .hour) ∷ refusal5 (r .minute)
+    ∷ refusal6-utc (r .year) (r .month) (r .day) (r .hour) (r .minute) (r .second) ∷ refusal7 (r .microsecond)
+    ∷ refusal19-utc (r .year) (r .month) (r .day) ∷ refusal20-utc (r .year) (r .month) (r .day) ∷ []
+
+-- the instant d, m is before e, n
+abbrev pub instantBefore : ℤ → ℕ → ℤ → ℕ → Bool
+instantBefore d m e n = ltZ d e || (leZ d e && ltb m n)
+
+-- an instant before 1972-01-01 0 h UTC, and one from 2025-06-28 0 h UTC on
+abbrev pub refusal19-tt : ℤ → ℕ → Case
+refusal19-tt d m = case 19 (instantBefore d m (pos 41317) 42_184_000)
+
+abbrev pub refusal20-tt : ℤ → ℕ → Case
+refusal20-tt d m = case 20 (not (instantBefore d m (pos 60854) 69_184_000))
+
 -- a table of rows as bytes, length first: fewer than three bytes, a length field that is not the number of bytes, or a number that is not 3 + 16 n for
 -- n rows, 2 to 200: 35 to 3203, and 3 above a multiple of 16; then its version
 abbrev pub tableLength : ℕ → Bool
@@ -147,42 +184,6 @@ beyond z = ltZ z (negℤ (pos 100_000)) || ltZ (pos 100_000) z
 abbrev pub refusal24 : List ℕ → Case
 refusal24 s =
     case 24 (someBelow (tableRows s) (λ i. beyond (tableXC s i) || (beyond (tableXS s i) || (ltZ (tableUncertainty s i) (pos 1) || ltZ (pos 100_000) (tableUncertainty s i)))))
-
--- the 27 days that have a second 60, in their last minute
-unfoldable pub daysWithSecond60 : List Date
-daysWithSecond60 =
-    date 1972 6 30 ∷ date 1972 12 31 ∷ date 1973 12 31 ∷ date 1974 12 31 ∷ date 1975 12 31 ∷ date 1976 12 31 ∷ date 1977 12 31 ∷ date 1978 12 31 ∷ date 1979 12 31
-    ∷ date 1981 6 30 ∷ date 1982 6 30 ∷ date 1983 6 30 ∷ date 1985 6 30 ∷ date 1987 12 31 ∷ date 1989 12 31 ∷ date 1990 12 31 ∷ date 1992 6 30 ∷ date 1993 6 30
-    ∷ date 1994 6 30 ∷ date 1995 12 31 ∷ date 1997 6 30 ∷ date 1998 12 31 ∷ date 2005 12 31 ∷ date 2008 12 31 ∷ date 2012 6 30 ∷ date 2015 6 30 ∷ date 2016 12 31 ∷ []
-
--- the second of a UTC reading
-abbrev pub refusal6-utc : (y m d hour minute second : ℕ) → Case
-refusal6-utc y m d hour minute second = case 6 (ltb (cond ((eqb hour 23 && eqb minute 59) && oneOf y m d daysWithSecond60) 60 59) second)
-
--- a UTC date before the list of leap seconds begins, and one from which on it has expired
-abbrev pub refusal19-utc : (y m d : ℕ) → Case
-refusal19-utc y m d = case 19 (earlier y m d (date 1972 1 1))
-
-abbrev pub refusal20-utc : (y m d : ℕ) → Case
-refusal20-utc y m d = case 20 (not (earlier y m d (date 2025 6 28)))
-
--- the refusals of a UTC reading
-abbrev pub readingRefusals : Reading → List Case
-readingRefusals r =
-    refusal1 (r .year) ∷ refusal2 (r .month) ∷ refusal3 (r .year) (r .month) (r .day) ∷ refusal4 (r .hour) ∷ refusal5 (r .minute)
-    ∷ refusal6-utc (r .year) (r .month) (r .day) (r .hour) (r .minute) (r .second) ∷ refusal7 (r .microsecond)
-    ∷ refusal19-utc (r .year) (r .month) (r .day) ∷ refusal20-utc (r .year) (r .month) (r .day) ∷ []
-
--- the instant d, m is before e, n
-abbrev pub instantBefore : ℤ → ℕ → ℤ → ℕ → Bool
-instantBefore d m e n = ltZ d e || (leZ d e && ltb m n)
-
--- an instant before 1972-01-01 0 h UTC, and one from 2025-06-28 0 h UTC on
-abbrev pub refusal19-tt : ℤ → ℕ → Case
-refusal19-tt d m = case 19 (instantBefore d m (pos 41317) 42_184_000)
-
-abbrev pub refusal20-tt : ℤ → ℕ → Case
-refusal20-tt d m = case 20 (not (instantBefore d m (pos 60854) 69_184_000))
 
 -- ---- the demand: each service by its list, its numbers, bytes that stay
 

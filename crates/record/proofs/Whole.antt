@@ -9,7 +9,8 @@ use lib.ListN.{replicate}
 use Rattle.bigendian.specs.Numbers.{wordSum, twosComplement}
 use Rattle.bigendian.proofs.Numbers.{sum-take}
 use Rattle.clock.specs.declared.ClockWords.{ClockWords}
-use Rattle.bigendian.specs.Fields.{inField, withField}
+use Rattle.bigendian.specs.Fields.{inField}
+use Rattle.bigendian.specs.Inner.{withField}
 use Rattle.record.specs.Format.{recordLength, version, lengthField, versionField, dayField, timeField, ut1Field, lodField, rateField, checkField, fieldBytes, negated, recordBytes}
 
 pub all-fields : (w : ClockWords) (ut1 lod rate : ℤ) (l₁ l₂ l₃ l₄ l₅ l₆ l₇ : List ℕ) (d a b c : ℕ)

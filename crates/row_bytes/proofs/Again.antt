@@ -11,12 +11,10 @@ use lib.Seq.{getD-drop}
 use Rattle.bigendian.specs.Numbers.{Bytes}
 use Rattle.bigendian.specs.Fields.{signedAt}
 use Rattle.bigendian.proofs.Fields.{field-bytes, signed-field, field-on}
-use Rattle.rows.specs.declared.Row.{Row}
 use Rattle.rows.specs.Table.{rowAt}
-use Rattle.rows.specs.Inner.{AcceptedRow}
 use Rattle.rows.proofs.Accepted.{accepted-row}
 use Rattle.row_bytes.specs.Form.{lengthField, versionField, headLength, dayField, xcField, xsField, uncertaintyField, rowLength, formLength, rowBytes, allBytes, tableBytes, atLeast0, rowIn, rowsIn, rowCount, tableIn, AcceptedBytes}
-use Rattle.row_bytes.proofs.Reading.{rows-count, table-count}
+use Rattle.row_bytes.proofs.Reading.{table-count}
 use Rattle.row_bytes.proofs.Forms.{accepted-form, table-held}
 
 -- what is behind the first n bytes is bytes

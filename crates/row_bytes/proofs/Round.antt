@@ -1,20 +1,17 @@
 -- What is written reads back: a row's bytes have each number in its field, rows stand one behind the other, and the head has the length and the version.
 -- So the byte form of an accepted table is accepted. Assumes nothing.
-use Prim.Native.Nat.{ℕ, zero, suc, _+_, _*_, _^_, _<_, _≤_, suc-le-suc}
+use Prim.Native.Nat.{ℕ, suc, _+_, _*_, _<_, _≤_, suc-le-suc}
 use mathlib.Core.Path.{_≡_, refl, ap, ap₂, _∙_, sym}
 use mathlib.Core.List.{List, [], _∷_, _++_}
 use native.Mathlib.Nat as N
 use native.Mathlib.Omega.{arith}
-use borrow.Author.Tests.{le-ltb, eq-eqb}
-use lib.Dec.{lit≤}
 use lib.IntN.{ℤ, pos, negsuc, natAbs}
 use lib.ListN.{length, drop, length-append}
-use lib.Signed.{mag}
 use Rattle.bigendian.specs.Fields.{fieldAt, signedAt}
 use Rattle.bigendian.proofs.Signs.{FitsBytes}
 use Rattle.bigendian.proofs.Fields.{number-back, signed-back}
 use Rattle.rows.specs.declared.Row.{Row}
-use Rattle.rows.specs.Table.{row, rowAt, fewestRows, mostRows, largest, tableCases, AcceptedTable}
+use Rattle.rows.specs.Table.{row, rowAt, largest, AcceptedTable}
 use Rattle.rows.specs.Inner.{AcceptedRow}
 use Rattle.rows.proofs.Accepted.{accepted-row}
 use Rattle.row_bytes.proofs.Forms.{bytes-accepted}

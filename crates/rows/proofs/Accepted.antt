@@ -7,7 +7,7 @@ use mathlib.Core.Logic.{⊎-elim}
 use mathlib.Core.List.{List, [], _∷_}
 use Prim.Native.Nat.{ℕ, zero, suc, _≤_, _<_}
 use native.Mathlib.Nat as N
-use lib.Dec.{leb, ltb, lit≤}
+use lib.Dec.{ltb, lit≤}
 use lib.ListN.{length, getD}
 use lib.IntN.{ℤ, natAbs}
 use borrow.Author.Tests.{ltb-false, leb-false, le-ltb, lt-leb}

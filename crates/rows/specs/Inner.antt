@@ -1,4 +1,4 @@
--- What only the contracts of the code's own functions cite, here and in nutation.
+-- What only the contracts of the code's own functions cite, here, in row_bytes and in nutation.
 use mathlib.Core.Path.{_≡_}
 use mathlib.Core.List.{List, [], _∷_}
 use Prim.Native.Nat.{ℕ, _+_, _-_, _≤_, _<_}

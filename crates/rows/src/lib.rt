@@ -1,4 +1,4 @@
-// Rows of amplitudes of the free core nutation: the built-in ones of FCNNUT, and where a moment is among the rows of any accepted table.
+// Rows of amplitudes of the free core nutation: the built-in ones of FCNNUT, the refusals of a table, and where a moment is among the rows of an accepted one.
 // Derived from the IERS routine FCNNUT; not IERS Conventions software (NOTICE, docs/DIFFERENCES.md).
 use instants::INDEX_OFFSET;
 ghost use mathlib.Core.Path.{_≡_};

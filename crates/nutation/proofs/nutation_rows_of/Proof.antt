@@ -2,7 +2,7 @@
 -- as with any rows. Assumes nothing.
 use mathlib.Core.Path.{_≡_, sym, _∙_, ap, ap₂}
 use mathlib.Core.List.{List}
-use Prim.Native.Nat.{ℕ, _≤_}
+use Prim.Native.Nat.{ℕ}
 use native.Mathlib.Omega.{arith}
 use lib.IntN.{ℤ}
 use lib.ListN.{length, take}
@@ -11,13 +11,12 @@ use mir.Facts.{toZ-ofZ}
 use Rattle.instants.specs.Refusals.{refusedOr}
 use Rattle.rows.specs.declared.Row.{Row}
 use Rattle.rows.specs.Table.{tableCases}
-use Rattle.rows.specs.Inner.{numbers, rowsOf, OfRows}
+use Rattle.rows.specs.Inner.{numbers, rowsOf}
 use Rattle.rows.proofs.Accepted.{rows-back, of-rows}
 use Rattle.row_bytes.specs.Form.{rowCount, tableIn}
 use Rattle.row_bytes.specs.Inner.{formRefusal}
 use Rattle.row_bytes.proofs.Reading.{table-length, table-numbers, filled-long}
 use Rattle.row_bytes.proofs.Forms.{Formed, formed, form-refused, form-passed}
-use Rattle.nutation.specs.declared.NutationAnswer.{NutationAnswer}
 use Rattle.nutation.specs.declared.NutationAnswer.the-variants.{NoNutation}
 use Rattle.nutation.specs.Ours.{nutationWith, nutationRowsOf}
 use borrow.Author.Needs.{needs}

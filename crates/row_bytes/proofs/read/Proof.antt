@@ -1,10 +1,9 @@
 -- `row_bytes::read` meets its contract. The invariant: the numbers of i rows stand at the front of the array, and behind them what it held. Assumes nothing.
-use Prim.Native.Nat.{ℕ, suc, _+_, _-_, _*_, _<_, _≤_}
-use mathlib.Core.Path.{_≡_, refl, sym, _∙_, ap}
+use Prim.Native.Nat.{ℕ, _+_, _-_, _*_, _<_, _≤_}
+use mathlib.Core.Path.{_≡_, refl, _∙_, ap}
 use mathlib.Core.List.{List}
 use native.Mathlib.Omega.{arith}
 use native.Mathlib.Numerals.{add-one}
-use lib.IntN.{ℤ}
 use lib.ListN.{length, drop, length-set, length-drop}
 use Rattle.rows.specs.Inner.{numbersOf}
 use Rattle.row_bytes.specs.Form.{headLength, rowLength, rowIn, rowCount, tableIn}

@@ -1,13 +1,12 @@
 -- `rows::number_wrong` meets its contract: each return has the tests that led there. Assumes nothing.
 use mathlib.Core.Path.{_≡_, sym, _∙_, ap}
-use mathlib.Core.Bool.{true, false}
+use mathlib.Core.Bool.{false}
 use native.Mathlib.Omega.{arith}
 use lib.Dec.{ltb}
 use lib.IntN.{ℤ, natAbs}
 use mir.Syntax.{w64}
 use mir.Val.{SFits}
 use mir.Facts.{toZ-ofZ}
-use Rattle.rows.specs.declared.Row.{Row}
 use Rattle.rows.specs.Table.{largest}
 use Rattle.rows.proofs.Limits.{xc-out, xs-out, no-uncertainty, uncertainty-out}
 use borrow.Author.Needs.{needs}
