@@ -1,6 +1,5 @@
 -- Demand 3 holds. Each field is proved from the theorem of its service that docs/PROMISES.md names. Assumes nothing.
 use mathlib.Core.Path.{refl, sym}
-use mathlib.Core.List.{[], _∷_}
 use Rattle.instants.proofs.Moments.{accepted-moment}
 use Rattle.rows.specs.Table.{daysWrong, numbersWrong}
 use Rattle.rows.proofs.Places.{row-date}
@@ -9,10 +8,9 @@ use Rattle.zonal.proofs.Promises.{accepted-answered}
 use Rattle.zonal.proofs.Worked.{case-accepted, no-constant}
 use Rattle.run.proofs.ReadBack.{run-reads, some-not-refused}
 use Rattle.nutation.proofs.Promises.{nutation-near, rows-near, no-constant-x, no-constant-y}
-use Rattle.promises.specs.Distance.{Distance}
+use Rattle.promises.specs.Distance.{twoRows, Distance}
 
--- two rows: the first day with the least uncertainty, and the last with the largest amplitudes and the largest uncertainty
-some-rows : AcceptedBytes (0 ∷ 35 ∷ 1 ∷ 0 ∷ 0 ∷ 58 ∷ 172 ∷ 0 ∷ 0 ∷ 0 ∷ 0 ∷ 0 ∷ 0 ∷ 0 ∷ 0 ∷ 0 ∷ 0 ∷ 0 ∷ 1 ∷ 0 ∷ 1 ∷ 89 ∷ 113 ∷ 255 ∷ 254 ∷ 121 ∷ 96 ∷ 0 ∷ 1 ∷ 134 ∷ 160 ∷ 0 ∷ 1 ∷ 134 ∷ 160 ∷ [])
+some-rows : AcceptedBytes twoRows
 unfolding tableIn rowsIn rowIn daysWrong numbersWrong
 some-rows = refl
 

@@ -145,30 +145,35 @@ refusal19-tt d m = case 19 (instantBefore d m (pos 41317) 42_184_000)
 abbrev pub refusal20-tt : ℤ → ℕ → Case
 refusal20-tt d m = case 20 (not (instantBefore d m (pos 60854) 69_184_000))
 
--- a table of rows as bytes, length first: fewer than three bytes, a length field that is not the number of bytes, or a number that is not 3 + 16 n for
--- n rows, 2 to 200: 35 to 3203, and 3 above a multiple of 16; then its version
+-- the bytes of a table of rows: 3 + 16 n for n from 2 to 200, so from 35 to 3203, and 3 above a multiple of 16
 abbrev pub tableLength : ℕ → Bool
 tableLength n = leb 35 n && (leb n 3203 && eqb (n % 16) 3)
 
+-- fewer than three bytes, a length field that is not their number, or a number that no table has
 abbrev pub refusal21 : List ℕ → Case
 refusal21 s = case 21 (ltb (length s) 3 || (not (eqb (numberAt s 0 2) (length s)) || not (tableLength (length s))))
 
+-- the version
 abbrev pub refusal22 : List ℕ → Case
 refusal22 s = case 22 (not (eqb (numberAt s 2 1) 1))
 
--- the number of its rows, and of the row at i, counted from 0, the day, XC, XS and the uncertainty
+-- the number of rows
 abbrev pub tableRows : List ℕ → ℕ
 tableRows s = (length s - 3) / 16
 
+-- of the row at i, counted from 0: its day,
 abbrev pub tableDay : List ℕ → ℕ → ℕ
 tableDay s i = numberAt s (3 + 16 * i) 4
 
+-- XC,
 abbrev pub tableXC : List ℕ → ℕ → ℤ
 tableXC s i = signedOf 4 (numberAt s (7 + 16 * i) 4)
 
+-- XS
 abbrev pub tableXS : List ℕ → ℕ → ℤ
 tableXS s i = signedOf 4 (numberAt s (11 + 16 * i) 4)
 
+-- and its uncertainty
 abbrev pub tableUncertainty : List ℕ → ℕ → ℤ
 tableUncertainty s i = signedOf 4 (numberAt s (15 + 16 * i) 4)
 
@@ -177,10 +182,11 @@ abbrev pub refusal23 : List ℕ → Case
 refusal23 s =
     case 23 (someBelow (tableRows s) (λ i. (ltb (tableDay s i) 15020 || ltb 88433 (tableDay s i)) || (ltb 0 i && leb (tableDay s i) (tableDay s (i - 1)))))
 
--- in some row an amplitude outside -1000 to 1000 microarcseconds, or an uncertainty that is not above 0 and at most 1000
+-- an amplitude outside -1000 to 1000 microarcseconds
 abbrev pub beyond : ℤ → Bool
 beyond z = ltZ z (negℤ (pos 100_000)) || ltZ (pos 100_000) z
 
+-- in some row such an amplitude, or an uncertainty that is not above 0 and at most 1000 microarcseconds
 abbrev pub refusal24 : List ℕ → Case
 refusal24 s =
     case 24 (someBelow (tableRows s) (λ i. beyond (tableXC s i) || (beyond (tableXS s i) || (ltZ (tableUncertainty s i) (pos 1) || ltZ (pos 100_000) (tableUncertainty s i)))))

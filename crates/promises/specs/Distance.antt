@@ -24,6 +24,13 @@ use Rattle.nutation.specs.Claims.{OffsetsNear}
 use Rattle.nutation.specs.declared.Offsets.{Offsets}
 use Rattle.nutation.specs.declared.NutationAnswer.the-variants.{Nutation}
 
+-- two rows as bytes: of the first day, with no amplitude and the least uncertainty; of the last, with the largest amplitudes and uncertainty
+abbrev pub twoRows : List ℕ
+twoRows =
+    0 ∷ 35 ∷ 1
+    ∷ 0 ∷ 0 ∷ 58 ∷ 172 ∷ 0 ∷ 0 ∷ 0 ∷ 0 ∷ 0 ∷ 0 ∷ 0 ∷ 0 ∷ 0 ∷ 0 ∷ 0 ∷ 1
+    ∷ 0 ∷ 1 ∷ 89 ∷ 113 ∷ 255 ∷ 254 ∷ 121 ∷ 96 ∷ 0 ∷ 1 ∷ 134 ∷ 160 ∷ 0 ∷ 1 ∷ 134 ∷ 160 ∷ []
+
 pub record Distance : Type 0 where
   -- an accepted instant exists: the instant of RG_ZONT2's own case
   pub some-instant : IsAccepted (pos 54465) 0
@@ -46,8 +53,8 @@ pub record Distance : Type 0 where
   -- and so with the rows of any accepted bytes, by those rows
   pub rows-near : (s : List ℕ) → AcceptedBytes s → (d : ℤ) (m : ℕ) → IsAccepted d m
       → (o : Offsets) × (nutationRowsOf s d m ≡ Nutation o) × OffsetsNear (tableIn s) (momentOf d m) o
-  -- accepted bytes exist: a table of two rows
-  pub some-rows : AcceptedBytes (0 ∷ 35 ∷ 1 ∷ 0 ∷ 0 ∷ 58 ∷ 172 ∷ 0 ∷ 0 ∷ 0 ∷ 0 ∷ 0 ∷ 0 ∷ 0 ∷ 0 ∷ 0 ∷ 0 ∷ 0 ∷ 1 ∷ 0 ∷ 1 ∷ 89 ∷ 113 ∷ 255 ∷ 254 ∷ 121 ∷ 96 ∷ 0 ∷ 1 ∷ 134 ∷ 160 ∷ 0 ∷ 1 ∷ 134 ∷ 160 ∷ [])
+  -- accepted bytes exist
+  pub some-rows : AcceptedBytes twoRows
   -- no constant offset would do
   pub offsets-vary : (c : ℤ)
       → (((d : ℤ) (m : ℕ) → IsAccepted d m → nutation.OffsetWithin c (exactX builtIn (momentOf d m)) (exactDen builtIn (momentOf d m))) → ⊥)

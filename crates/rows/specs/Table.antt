@@ -21,17 +21,19 @@ rowAt rows i = getD rows i (row 0 (+ 0) (+ 0) 0)
 
 -- ---- the limits
 
--- how many rows a table has
+-- how many rows a table has at least
 abbrev pub fewestRows : ℕ
 fewestRows = 2
 
+-- and at most
 abbrev pub mostRows : ℕ
 mostRows = 200
 
--- the day numbers that a row may have
+-- the first day number that a row may have
 abbrev pub firstRowDay : ℕ
 firstRowDay = 15020
 
+-- and the last
 abbrev pub lastRowDay : ℕ
 lastRowDay = 88433
 
