@@ -1,5 +1,5 @@
 #!/usr/bin/env python3
-"""Four documents (DOCUMENTS) cite only what exists, and all of what they should; links of README.md and docs/ lead somewhere.
+"""Five documents (DOCUMENTS) cite only what exists, and all of what they should; links of README.md and docs/ lead somewhere.
 
     tools/cited.py [ROOT] [--self-test]
 
@@ -10,6 +10,7 @@ and each of them must be noticed."""
 import re
 import sys
 from collections import defaultdict
+from functools import lru_cache
 from fnmatch import fnmatchcase
 from pathlib import Path
 
@@ -40,6 +41,7 @@ class Tree:
         self.crates = set(re.findall(r"^(\w+):", (root / "crates.txt").read_text(encoding="utf-8"), re.M))
         self.names = set().union(*self.defined.values()) | self.crates | set(re.findall(r"\b(?:enfys|ENFYS)_\w+", header))
         self.edits = {f"{p.parts[-3]}/{p.stem}" for p in root.glob("crates/*/must-fail/*.edit")}
+        self.labels = {edit.split("/")[1] for edit in self.edits}
         for path in sorted(root.glob("crates/*/proofs/*.antt")):
             text = path.read_text(encoding="utf-8")
             for name in re.findall(rf"^-- PROMISE\..*\n(?:--.*\n)*(?:(?:pub|abbrev|unfoldable) )*({NAME}) :", text, re.M):
@@ -63,6 +65,7 @@ class Tree:
             names.update(re.findall(r"^\s*([A-Z]\w*)", body, re.M))
         return names
 
+    @lru_cache(maxsize=None)
     def exists(self, path):
         return any(self.root.glob(path.rstrip("/"))) if path and not path.startswith("/") else False
 
@@ -112,8 +115,8 @@ class Document:
             self.cite("edit", place, text, label in tree.edits)
             self.cited["edit"].add(label)
         elif self.name == "WRONG_PROGRAMS" and edit and not tree.exists(edit.group(1)):
-            self.cite("edit", place, text, any(fnmatchcase(e, text) for e in tree.edits))
-        elif self.name == "WRONG_PROGRAMS" and any(e.endswith("/" + text) for e in tree.edits):  # a label in a sentence that names its crate
+            self.cite("edit", place, text, text in tree.edits or "*" in text and any(fnmatchcase(e, text) for e in tree.edits))
+        elif self.name == "WRONG_PROGRAMS" and text in tree.labels:  # a label in a sentence that names its crate
             self.cite("edit", place, text, True)
         elif "/" in text and " " not in text:
             self.cite("path", place, text, self.path(re.sub(r"\b(NAME|LABEL)\b", "*", text)))
@@ -165,13 +168,12 @@ class Document:
 
     def label_places(self):
         """Where a bare label of an edit stands: the first column, headed Edit, under a heading that names one crate."""
-        places = {}
+        places, headings = {}, [(found.start(), found.group(1)) for found in re.finditer(r"^#+ (.*)$", self.text, re.M)]
         for header, cells in self.rows():
             place, cell = cells[0]
             label = re.fullmatch(r"\s*`(\w+)`\s*", cell)
             if header[0] == "Edit" and label:
-                heading = re.findall(r"^#+ (.*)$", self.text[:place], re.M)[-1]
-                places[place + label.start(1)] = heading
+                places[place + label.start(1)] = next(heading for at, heading in reversed(headings) if at < place)
         return places
 
     def tables(self):
