@@ -11,12 +11,11 @@ ghost use Prim.Native.Nat.{ℕ, _*_, _/_, _^_, _≤_, _<_};
 ghost use Rattle.instants.specs.Limits.{dayMicros};
 ghost use Rattle.instants.specs.Moments.{latest};
 ghost use Rattle.algebra.specs.Integers.{dist};
-ghost use lib.ListN.{length};
-ghost use Rattle.instants.specs.Refusals.{refusedOr};
-ghost use Rattle.rows.specs.Table.{largest, fewestRows, mostRows, tableCases};
+ghost use Rattle.rows.specs.Table.{largest};
 ghost use Rattle.rows.specs.declared.Place.the-variants.{End, Between};
-ghost use Rattle.rows.specs.Inner.{AcceptedRow, rowsOf, OfRows, Lent, Placed};
-ghost use Rattle.nutation.specs.declared.NutationAnswer.the-variants.{NoNutation};
+ghost use Rattle.rows.specs.Inner.{AcceptedRow, Placed};
+ghost use Rattle.row_bytes.specs.Form.{tableIn};
+ghost use Rattle.row_bytes.specs.Inner.{Lent};
 ghost use Rattle.nutation.specs.Exact.{roundUp, uncertaintyAt};
 ghost use Rattle.nutation.specs.Ours.{ourAngle, mixed, offset, offsetsAt, nutationWith, nutationOf, nutationRowsOf};
 ghost use Rattle.nutation.specs.Inner.{amplitudes, OnTheWay, MixBounds, OffsetBounds, twiceBetween};
@@ -197,16 +196,16 @@ fn offsets_of(p: Place, x: u64) -> Offsets
     }
 }
 
-// The service over a table that is lent: its offsets, or refusal 8 or 9.
-fn nutation_with(t: &[[i64; 4]], day: i64, micros: u64) -> NutationAnswer
-    requires { ⌜ Lent (now t) ⌝ }
-    ensures { λ r. ⌜ r ≡ nutationWith (rowsOf (now (t .entry))) day micros ⌝ }
+// The service over the table in bytes that are lent: its offsets, or refusal 8 or 9.
+fn nutation_with(s: &[u8], day: i64, micros: u64) -> NutationAnswer
+    requires { ⌜ Lent (now s) ⌝ }
+    ensures { λ r. ⌜ r ≡ nutationWith (tableIn (now (s .entry))) day micros ⌝ }
 {
     match instants::accept(day, micros) {
         Acceptance::NotAccepted(n) => NutationAnswer::NoNutation(n),
         Acceptance::Accepted(i) => {
             let x = instants::moment(i, micros);
-            NutationAnswer::Nutation(offsets_of(rows::place_at(t, x), x))
+            NutationAnswer::Nutation(offsets_of(row_places::place_at(s, x), x))
         }
     }
 }
@@ -215,34 +214,17 @@ fn nutation_with(t: &[[i64; 4]], day: i64, micros: u64) -> NutationAnswer
 pub fn nutation_of(day: i64, micros: u64) -> NutationAnswer
     ensures { λ r. ⌜ r ≡ nutationOf day micros ⌝ }
 {
-    let t = rows::built_in();
-    nutation_with(&t, day, micros)
-}
-
-// With the rows of a table that is lent, or refusal 23 or 24.
-fn answer_of(t: &[[i64; 4]], day: i64, micros: u64) -> NutationAnswer
-    requires fewest { ⌜ fewestRows ≤ length (now t) ⌝ }
-    requires most { ⌜ length (now t) ≤ mostRows ⌝ }
-    requires table { ⌜ OfRows (now t) ⌝ }
-    ensures { λ r. ⌜ r ≡ refusedOr NoNutation (tableCases (rowsOf (now (t .entry)))) (nutationWith (rowsOf (now (t .entry))) day micros) ⌝ }
-{
-    let refusal = rows::refusal(t);
-    if refusal != 0 {
-        return NutationAnswer::NoNutation(refusal);
-    }
-    nutation_with(t, day, micros)
+    let s = row_places::built_in();
+    nutation_with(&s, day, micros)
 }
 
 // With the rows in the bytes s, or refusal 21 to 24, then 8 or 9.
 pub fn nutation_rows_of(s: &[u8], day: i64, micros: u64) -> NutationAnswer
     ensures { λ r. ⌜ r ≡ nutationRowsOf (now (s .entry)) day micros ⌝ }
 {
-    let n = row_bytes::form(s);
+    let n = row_bytes::refusal(s);
     if n != 0 {
         return NutationAnswer::NoNutation(n);
     }
-    let mut t = [[0i64; 4]; row_bytes::MOST];
-    row_bytes::read(s, &mut t);
-    let count = row_bytes::row_count(s.len());
-    answer_of(&t[..count], day, micros)
+    nutation_with(s, day, micros)
 }

@@ -1,16 +1,19 @@
 -- Bytes are of the right form exactly when none of the cases of the form applies; then the cases that are left are those of the rows. Assumes nothing.
-use Prim.Native.Nat.{ℕ, _≤_}
+use Prim.Native.Nat.{ℕ, _≤_, _<_}
 use mathlib.Core.Path.{_≡_, ap}
 use mathlib.Core.Bool.{not}
 use mathlib.Core.List.{List}
+use native.Mathlib.Omega.{arith}
 use borrow.Author.Tests.{ltb-false, eqb-true, le-ltb, eq-eqb, not-false}
 use lib.ListN.{length}
 use Rattle.bigendian.specs.Fields.{fieldAt}
-use Rattle.instants.specs.Refusals.{refusedOr}
+use Rattle.instants.specs.Refusals.{firstRefusal}
 use Rattle.instants.proofs.FirstRefusal.{NoneApplies, none-both, none-answered, refused-first, first-none}
-use Rattle.rows.specs.Table.{fewestRows, mostRows, tableCases, AcceptedTable}
+use Rattle.rows.specs.Table.{rowAt, fewestRows, mostRows, tableCases, AcceptedTable}
+use Rattle.rows.specs.Inner.{AcceptedRow}
+use Rattle.rows.proofs.Accepted.{accepted-row}
 use Rattle.row_bytes.specs.Form.{headLength, lengthField, versionField, version, formLength, rowCount, tableIn, formCases, bytesCases, AcceptedBytes}
-use Rattle.row_bytes.specs.Inner.{formRefusal}
+use Rattle.row_bytes.specs.Inner.{formRefusal, bytesRefusal, Lent}
 use Rattle.row_bytes.proofs.Reading.{table-count}
 
 -- bytes of the right form
@@ -72,12 +75,24 @@ table-held s e =
     let f = none-formed s (h .0) in
     record { fewest = rw (table-count s) (f .fewest); most = rw (table-count s) (f .most); days = h .1 .0; numbers = h .1 .1 .0 }
 
--- the cases of bytes, by those of their form
-module _ {A : Type 0} (refuse : ℕ → A) (s : List ℕ) (a : A) where
-  pub form-refused : (formRefusal s ≡ 0 → ⊥) → refusedOr refuse (bytesCases s) a ≡ refuse (formRefusal s)
-  unfolding formRefusal
-  form-refused h = refused-first refuse (formCases s) (refusedOr refuse (tableCases (tableIn s)) a) h
+-- and are lent as those of an accepted table
+pub lent : (s : List ℕ) → AcceptedBytes s → Lent s
+lent s e = record { whole = accepted-form s e .whole; accepted = table-held s e }
 
-  pub form-passed : formRefusal s ≡ 0 → refusedOr refuse (bytesCases s) a ≡ refusedOr refuse (tableCases (tableIn s)) a
-  unfolding formRefusal
-  form-passed e = none-answered refuse (formCases s) (refusedOr refuse (tableCases (tableIn s)) a) (first-none (formCases s) tt e)
+-- of which there are two or more, each within its limits
+module _ (s : List ℕ) (l : Lent s) where
+  pub lent-two : 2 ≤ rowCount (length s)
+  lent-two = omega (arith, table-count s, l .accepted .fewest)
+
+  pub lent-row : (i : ℕ) → i < rowCount (length s) → AcceptedRow (rowAt (tableIn s) i)
+  lent-row i h = accepted-row (tableIn s) (l .accepted) i (omega (arith, table-count s, h))
+
+-- the refusal of bytes: that of their form, or else that of the rows
+module _ (s : List ℕ) where
+  pub form-refused : (formRefusal s ≡ 0 → ⊥) → bytesRefusal s ≡ formRefusal s
+  unfolding formRefusal bytesRefusal
+  form-refused h = refused-first (λ n. n) (formCases s) (firstRefusal (tableCases (tableIn s))) h
+
+  pub form-passed : formRefusal s ≡ 0 → bytesRefusal s ≡ firstRefusal (tableCases (tableIn s))
+  unfolding formRefusal bytesRefusal
+  form-passed e = none-answered (λ n. n) (formCases s) (firstRefusal (tableCases (tableIn s))) (first-none (formCases s) tt e)

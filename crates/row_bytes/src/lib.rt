@@ -1,14 +1,15 @@
-// A table of rows as bytes: its form is tested, and its rows are read into an array of numbers.
+// A table of rows as bytes: its refusals, and its rows, each read where it stands.
 use bigendian::Field;
 use bigendian::field_at;
+use rows::Row;
 ghost use mathlib.Core.Path.{_≡_};
+ghost use mathlib.Core.Bool.{cond, _||_};
 ghost use Prim.Native.Nat.{_^_, _<_, _≤_};
-ghost use lib.IntN.{pos};
 ghost use lib.ListN.{length};
 ghost use Rattle.bigendian.specs.Numbers.{signedOf};
-ghost use Rattle.row_bytes.specs.Form.{headLength, rowLength, atLeast0, rowIn, rowCount};
-ghost use Rattle.row_bytes.specs.Inner.{formRefusal, wordOf, Whole, filled};
-ghost use Rattle.rows.specs.Inner.{numbersOf};
+ghost use Rattle.rows.specs.Table.{rowAt, dayOut, notAfter, daysWrong, numbersWrong};
+ghost use Rattle.row_bytes.specs.Form.{headLength, rowLength, atLeast0, rowIn, rowCount, tableIn};
+ghost use Rattle.row_bytes.specs.Inner.{formRefusal, bytesRefusal, wordOf, Whole};
 
 // The bytes of the head, and those of a row.
 const HEAD: usize = 3;
@@ -24,7 +25,7 @@ const VERSION: u64 = 1;
 // How many rows a table has at least and at most.
 const FEWEST: usize = 2;
 
-pub const MOST: usize = 200;
+const MOST: usize = 200;
 
 // The fields of the head.
 const LENGTH_FIELD: Field = Field { at: 0, size: 2 };
@@ -40,7 +41,7 @@ pub fn row_count(n: usize) -> usize
 }
 
 // The refusal of the form, or 0.
-pub fn form(s: &[u8]) -> u32
+fn form(s: &[u8]) -> u32
     ensures { λ r. ⌜ r ≡ formRefusal (now (s .entry)) ⌝ }
 {
     let n = s.len();
@@ -82,39 +83,106 @@ fn signed_word(a: u8, b: u8, c: u8, d: u8) -> i64
 }
 
 // A number, or 0 for one that is below 0.
-fn at_least_0(x: i64) -> i64
-    ensures { λ r. ⌜ r ≡ pos (atLeast0 x) ⌝ }
+fn at_least_0(x: i64) -> u64
+    ensures { λ r. ⌜ r ≡ atLeast0 x ⌝ }
 {
     if x < 0 {
         return 0;
     }
-    x
+    x as u64
 }
 
-// The four numbers of the row at the front of s: the day, XC, XS and the uncertainty.
-fn row_numbers(s: &[u8]) -> [i64; 4]
+// The row at the front of s: the day, XC, XS and the uncertainty.
+fn row_in(s: &[u8]) -> Row
     requires { ⌜ rowLength ≤ length (now s) ⌝ }
-    ensures { λ r. ⌜ r ≡ numbersOf (rowIn (now (s .entry))) ⌝ }
+    ensures { λ r. ⌜ r ≡ rowIn (now (s .entry)) ⌝ }
 {
-    [
-        word(s[0], s[1], s[2], s[3]) as i64,
-        signed_word(s[4], s[5], s[6], s[7]),
-        signed_word(s[8], s[9], s[10], s[11]),
-        at_least_0(signed_word(s[12], s[13], s[14], s[15])),
-    ]
+    Row {
+        day: word(s[0], s[1], s[2], s[3]),
+        xc: signed_word(s[4], s[5], s[6], s[7]),
+        xs: signed_word(s[8], s[9], s[10], s[11]),
+        uncertainty: at_least_0(signed_word(s[12], s[13], s[14], s[15])),
+    }
 }
 
-// Reads the rows of s into the front of t.
-pub fn read(s: &[u8], t: &mut [[i64; 4]])
+// The row at an index of the table in s.
+pub fn row_at(s: &[u8], i: usize) -> Row
     requires whole { ⌜ Whole (now s) ⌝ }
-    requires room { ⌜ rowCount (length (now s)) ≤ length (now t) ⌝ }
-    ensures { λ _. ⌜ now (t .exit) ≡ filled (now (s .entry)) (now (t .entry)) ⌝ }
+    requires index { ⌜ i < rowCount (length (now s)) ⌝ }
+    ensures { λ r. ⌜ r ≡ rowAt (tableIn (now (s .entry))) i ⌝ }
+{
+    let at = HEAD + ROW * i;
+    row_in(&s[at..])
+}
+
+// A row's day is out of its limits, or not after that of the row before it.
+fn day_wrong(s: &[u8], i: usize) -> bool
+    requires whole { ⌜ Whole (now s) ⌝ }
+    requires index { ⌜ i < rowCount (length (now s)) ⌝ }
+    ensures { λ r. ⌜ r ≡ (dayOut (rowAt (tableIn (now (s .entry))) i) || notAfter (tableIn (now (s .entry))) i) ⌝ }
+{
+    let r = row_at(s, i);
+    if rows::day_out(r) {
+        return true;
+    }
+    if i == 0 {
+        return false;
+    }
+    r.day <= row_at(s, i - 1).day
+}
+
+// Some row's day is wrong.
+fn days_wrong(s: &[u8]) -> bool
+    requires { ⌜ Whole (now s) ⌝ }
+    ensures { λ r. ⌜ r ≡ daysWrong (tableIn (now (s .entry))) ⌝ }
 {
     let count = row_count(s.len());
     let mut i: usize = 0;
     while i < count {
-        let at = HEAD + ROW * i;
-        t[i] = row_numbers(&s[at..]);
-        i += 1;
+        if day_wrong(s, i) {
+            return true;
+        }
+        i = i + 1;
     }
+    false
+}
+
+// Some row's amplitude or uncertainty is out of its limits.
+fn numbers_wrong(s: &[u8]) -> bool
+    requires { ⌜ Whole (now s) ⌝ }
+    ensures { λ r. ⌜ r ≡ numbersWrong (tableIn (now (s .entry))) ⌝ }
+{
+    let count = row_count(s.len());
+    let mut i: usize = 0;
+    while i < count {
+        if rows::number_out(row_at(s, i)) {
+            return true;
+        }
+        i = i + 1;
+    }
+    false
+}
+
+// The refusal for days, else for numbers, or 0.
+fn first_of(days: bool, numbers: bool) -> u32
+    ensures { λ r. ⌜ r ≡ cond days 23 (cond numbers 24 0) ⌝ }
+{
+    if days {
+        return 23;
+    }
+    if numbers {
+        return 24;
+    }
+    0
+}
+
+// The refusal of the bytes s, or 0: that of their form, else of days, else of numbers, each looked for in all rows.
+pub fn refusal(s: &[u8]) -> u32
+    ensures { λ r. ⌜ r ≡ bytesRefusal (now (s .entry)) ⌝ }
+{
+    let n = form(s);
+    if n != 0 {
+        return n;
+    }
+    first_of(days_wrong(s), numbers_wrong(s))
 }

@@ -1,22 +1,20 @@
--- The rules of a table: what its two tests say of each row, the built-in rows, and a table that is lent. A test over all rows that finds nothing finds
--- nothing at each; rows that are written as numbers and read back are the same.
+-- The rules of a table: what its two tests say of each row, and the built-in rows. A test over all rows that finds nothing finds nothing at each.
 -- Assumes nothing.
-use mathlib.Core.Path.{_≡_, refl, sym, _∙_, ap, ap₂, subst}
+use mathlib.Core.Path.{_≡_, refl, sym, _∙_, ap, ap₂}
 use mathlib.Core.Bool.{Bool, true, false, _||_}
 use mathlib.Core.Logic.{⊎-elim}
-use mathlib.Core.List.{List, [], _∷_}
+use mathlib.Core.List.{List}
 use Prim.Native.Nat.{ℕ, zero, suc, _≤_, _<_}
 use native.Mathlib.Nat as N
 use lib.Dec.{ltb, lit≤}
-use lib.ListN.{length, getD}
-use lib.IntN.{ℤ, natAbs}
+use lib.ListN.{length}
+use lib.IntN.{natAbs}
 use borrow.Author.Tests.{ltb-false, leb-false, le-ltb, lt-leb}
 use Rattle.instants.proofs.Accepted.{both-false}
-use Rattle.instants.proofs.FirstRefusal.{first-none}
 use Rattle.rows.specs.declared.Row.{Row}
-use Rattle.rows.specs.Table.{rowAt, fewestRows, mostRows, firstRowDay, lastRowDay, largest, dayOut, notAfter, numberOut, someBelow, daysWrong, numbersWrong, tableCases, AcceptedTable}
+use Rattle.rows.specs.Table.{rowAt, fewestRows, mostRows, firstRowDay, lastRowDay, largest, dayOut, notAfter, numberOut, someBelow, daysWrong, numbersWrong, AcceptedTable}
 use Rattle.rows.specs.BuiltIn.{builtIn}
-use Rattle.rows.specs.Inner.{tableRefusal, AcceptedRow, numbersOf, numbers, rowsOf, OfRows, Lent}
+use Rattle.rows.specs.Inner.{AcceptedRow}
 
 -- ---- a test over all rows
 
@@ -98,49 +96,3 @@ accepted-rows rows h k a u = record {
 pub builtIn-accepted : AcceptedTable builtIn
 unfolding builtIn daysWrong numbersWrong
 builtIn-accepted = record { fewest = lit≤ tt; most = lit≤ tt; days = refl; numbers = refl }
-
--- ---- a table that is lent: its rows, read from their numbers and written back
-
-pub rows-back : (rows : List Row) → rowsOf (numbers rows) ≡ rows
-unfolding rowsOf numbers
-rows-back [] = refl
-rows-back (r ∷ rs) = ap (λ (l : List Row). r ∷ l) (rows-back rs)
-
-pub of-rows : (rows : List Row) → OfRows (numbers rows)
-of-rows rows = ap numbers (rows-back rows)
-
-pub lent : (rows : List Row) → AcceptedTable rows → Lent (numbers rows)
-lent rows a = record { accepted = subst AcceptedTable (sym (rows-back rows)) a; same = of-rows rows }
-
-pub numbers-length : (rows : List Row) → length (numbers rows) ≡ length rows
-unfolding numbers
-numbers-length [] = refl
-numbers-length (r ∷ rs) = ap suc (numbers-length rs)
-
-pub rows-length : (t : List (List ℤ)) → length (rowsOf t) ≡ length t
-unfolding rowsOf
-rows-length [] = refl
-rows-length (r ∷ rs) = ap suc (rows-length rs)
-
--- with rows enough and not too many, the tests find nothing
-pub tested : (t : List (List ℤ)) → fewestRows ≤ length t → length t ≤ mostRows → OfRows t → tableRefusal (rowsOf t) ≡ 0 → Lent t
-unfolding tableRefusal
-tested t h k o e =
-    let n = first-none (tableCases (rowsOf t)) tt e in
-    record { accepted = record { fewest = rw (rows-length t) h; most = rw (rows-length t) k; days = n .0; numbers = n .1 .0 }; same = o }
-
-numbers-at : (rows : List Row) (i : ℕ) → i < length rows → getD (numbers rows) i [] ≡ numbersOf (rowAt rows i)
-unfolding numbers
-numbers-at [] i h = absurd (N.not-suc-le-zero h)
-numbers-at (r ∷ rs) zero h = refl
-numbers-at (r ∷ rs) (suc i) h = numbers-at rs i (N.le-of-suc-le-suc h)
-
-module _ (t : List (List ℤ)) (i : ℕ) (h : i < length t) where
-  below : i < length (rowsOf t)
-  below = subst (λ (n : ℕ). i < n) (sym (rows-length t)) h
-
-  pub numbers-are : OfRows t → getD t i [] ≡ numbersOf (rowAt (rowsOf t) i)
-  numbers-are o = ap (λ (s : List (List ℤ)). getD s i []) (sym o) ∙ numbers-at (rowsOf t) i below
-
-  pub lent-row : Lent t → AcceptedRow (rowAt (rowsOf t) i)
-  lent-row l = accepted-row (rowsOf t) (l .accepted) i below

@@ -1,5 +1,5 @@
--- Limits: a number and a day against their limits, for far, day_wrong and number_wrong. Accepted: what the tests of a table say, the built-in rows, and the numbers
--- of a table that is lent. Places: where a moment is among the rows. Then a proof for each function.
+-- Limits: a number and a day against their limits, for the functions that test them. Accepted: what the tests of a table say, and the built-in rows. Places:
+-- where a moment is among the rows. Then a proof for each function.
 pub mod Limits
 pub mod Accepted
 pub mod Places

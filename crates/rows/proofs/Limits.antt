@@ -1,4 +1,5 @@
--- The tests of a number and of a day as the code makes them. A signed number is held to a limit on both sides of 0: below -n, else above n.
+-- The tests of a number and of a day as the code makes them, here and in row_bytes. A signed number is held to a limit on both sides of 0: below -n, else
+-- above n.
 -- Assumes nothing.
 use mathlib.Core.Path.{_≡_, refl, sym}
 use mathlib.Core.Bool.{Bool, true, false, true≢false, _||_}
@@ -10,7 +11,7 @@ use lib.IntN.{ℤ, pos, negsuc, natAbs}
 use lib.Signed.{ltZ}
 use borrow.Author.Tests.{ltb-true, ltb-false, lt-ltb, le-ltb}
 use Rattle.rows.specs.declared.Row.{Row}
-use Rattle.rows.specs.Table.{rowAt, firstRowDay, lastRowDay, largest, dayOut, notAfter, numberOut}
+use Rattle.rows.specs.Table.{rowAt, largest, dayOut, notAfter, numberOut}
 
 -- ---- a signed number
 
@@ -23,21 +24,20 @@ pub far-above : (n : ℕ) (x : ℤ) → ltZ x (negsuc n) ≡ false → ltZ (pos 
 far-above n (pos m) e = refl
 far-above n (negsuc m) e = sym (le-ltb (suc n) (suc m) (omega (arith, ltb-false n m e)))
 
--- ---- a row's day d, as the code tests it
+-- ---- a row's day: out of its limits, or else what is before it decides, if there is something
 
-module _ (rows : List Row) (i d : ℕ) (is : d ≡ rowAt rows i .day) where
-  pub too-early : d < firstRowDay → true ≡ (dayOut (rowAt rows i) || notAfter rows i)
-  too-early h = rw (← is) (simp (lt-ltb d firstRowDay h))
+module _ (rows : List Row) (i : ℕ) where
+  abbrev wrong : Bool
+  wrong = dayOut (rowAt rows i) || notAfter rows i
 
-  pub too-late : firstRowDay ≤ d → lastRowDay < d → true ≡ (dayOut (rowAt rows i) || notAfter rows i)
-  too-late h k = rw (← is) (simp (le-ltb d firstRowDay h, lt-ltb lastRowDay d k))
+  pub out-day : dayOut (rowAt rows i) ≡ true → true ≡ wrong
+  out-day e = rw e refl
 
-  -- within the limits what is before it decides, if there is something
-  pub first-day : firstRowDay ≤ d → d ≤ lastRowDay → i ≡ 0 → false ≡ (dayOut (rowAt rows i) || notAfter rows i)
-  first-day h k z = rw (← is) (simp (le-ltb d firstRowDay h, le-ltb lastRowDay d k, z))
+  pub first-day : dayOut (rowAt rows i) ≡ false → i ≡ 0 → false ≡ wrong
+  first-day e z = rw (e, z) refl
 
-  pub later-day : firstRowDay ≤ d → d ≤ lastRowDay → (j e : ℕ) → i ≡ suc j → e ≡ rowAt rows j .day → leb d e ≡ (dayOut (rowAt rows i) || notAfter rows i)
-  later-day h k j e s q = rw (← is) (simp (le-ltb d firstRowDay h, le-ltb lastRowDay d k, s) (rw (q, is, s) refl))
+  pub later-day : dayOut (rowAt rows i) ≡ false → (j : ℕ) → i ≡ suc j → leb (rowAt rows i .day) (rowAt rows j .day) ≡ wrong
+  later-day e j s = rw (e, s) refl
 
 -- ---- a row's numbers
 

@@ -1,21 +1,13 @@
--- What only the contracts of the code's own functions cite, here, in row_bytes and in nutation.
-use mathlib.Core.Path.{_≡_}
-use mathlib.Core.List.{List, [], _∷_}
+-- What only the contracts of the code's own functions cite, here, in row_places and in nutation.
+use mathlib.Core.List.{List}
 use Prim.Native.Nat.{ℕ, _+_, _-_, _≤_, _<_}
-use lib.IntN.{ℤ, pos, natAbs}
-use lib.ListN.{length, getD}
+use lib.IntN.{natAbs}
+use lib.ListN.{length}
 use Rattle.rows.specs.declared.Row.{Row}
 use Rattle.rows.specs.declared.Place.{Place}
 use Rattle.rows.specs.declared.Place.the-variants.{End, Between}
-use Rattle.instants.specs.Refusals.{firstRefusal}
-use Rattle.rows.specs.Table.{row, rowAt, firstRowDay, lastRowDay, largest, tableCases, AcceptedTable}
+use Rattle.rows.specs.Table.{rowAt, firstRowDay, lastRowDay, largest}
 use Rattle.rows.specs.Places.{rowMoment}
-
--- ---- the rules of a table
-
--- the first refusal of rows, or 0
-unfoldable pub tableRefusal : List Row → ℕ
-tableRefusal rows = firstRefusal (tableCases rows)
 
 -- what a row of an accepted table has: its date, both amplitudes and its uncertainty, which is above 0, are within their limits
 pub record AcceptedRow (r : Row) : Type 0 where
@@ -25,33 +17,6 @@ pub record AcceptedRow (r : Row) : Type 0 where
   pub xs-small : natAbs (r .xs) ≤ largest
   pub uncertainty-positive : 0 < r .uncertainty
   pub uncertainty-small : r .uncertainty ≤ largest
-
--- ---- a table that is lent: rows of four numbers
-
--- the numbers of rows
-abbrev pub numbersOf : Row → List ℤ
-numbersOf r = pos (r .day) ∷ r .xc ∷ r .xs ∷ pos (r .uncertainty) ∷ []
-
-unfoldable pub numbers : List Row → List (List ℤ)
-numbers [] = []
-numbers (r ∷ rs) = numbersOf r ∷ numbers rs
-
--- the rows of numbers
-abbrev pub rowOf : List ℤ → Row
-rowOf r = row (natAbs (getD r 0 (pos 0))) (getD r 1 (pos 0)) (getD r 2 (pos 0)) (natAbs (getD r 3 (pos 0)))
-
-unfoldable pub rowsOf : List (List ℤ) → List Row
-rowsOf [] = []
-rowsOf (r ∷ rs) = rowOf r ∷ rowsOf rs
-
--- the numbers are those of rows: no day and no uncertainty is below 0
-abbrev pub OfRows : List (List ℤ) → Type 0
-OfRows t = numbers (rowsOf t) ≡ t
-
--- and the rows are accepted
-pub record Lent (t : List (List ℤ)) : Type 0 where
-  pub accepted : AcceptedTable (rowsOf t)
-  pub same : OfRows t
 
 -- ---- where x is among the rows
 

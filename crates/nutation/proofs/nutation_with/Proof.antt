@@ -16,16 +16,17 @@ use Rattle.instants.proofs.Moments.{moment-le}
 use Rattle.rows.specs.declared.Row.{Row}
 use Rattle.rows.specs.declared.Place.{Place}
 use Rattle.rows.specs.Places.{place}
-use Rattle.rows.specs.Inner.{rowsOf, Placed}
+use Rattle.rows.specs.Inner.{Placed}
 use Rattle.rows.proofs.Places.{placed}
+use Rattle.row_bytes.specs.Form.{tableIn}
 use Rattle.nutation.specs.declared.NutationAnswer.the-variants.{Nutation, NoNutation}
 use Rattle.nutation.specs.Ours.{offsetsAt}
 use borrow.Author.Needs.{needs}
 use Rattle.nutation.proofs.nutation_with.Statement.{statement}
 use Rattle.nutation.proofs.nutation_with.Tie as tie
 
-says : (c : tie.After-accept) → c .accept .result ≡ acceptance (c .before .args .day) (c .before .args .micros)
-says c = c .accept .ensures ∙ ap (λ (d : ℤ). acceptance d (c .before .args .micros)) (toZ-ofZ (c .before .fits .day))
+says : (c : tie.After-accept) → let s = c .before .before in c .accept .result ≡ acceptance (s .args .day) (s .args .micros)
+says c = let s = c .before .before in c .accept .ensures ∙ ap (λ (d : ℤ). acceptance d (s .args .micros)) (toZ-ofZ (s .fits .day))
 
 -- ---- where the instant is accepted, and its day has the index i
 
@@ -33,14 +34,17 @@ module _ (c : tie.After-known-told2) where
   abbrev asked : tie.After-accept
   asked = c .before .before .before
 
+  abbrev start : tie.Start
+  start = asked .before .before
+
   abbrev day : ℤ
-  day = asked .before .args .day
+  day = start .args .day
 
   abbrev micros : ℕ
-  micros = asked .before .args .micros
+  micros = start .args .micros
 
   abbrev table : List Row
-  table = rowsOf (now (asked .before .args .t))
+  table = tableIn (now (start .args .s))
 
   abbrev i : ℕ
   i = c .before .i .given .0 .0
@@ -66,13 +70,13 @@ moment-requires : tie.Need-moment-requires
 moment-requires c κs = (omega (arith, known c .high), known c .less)
 
 place-at-requires : tie.Need-place-at-requires
-place-at-requires c κs = asked (c .before) .before .pre
+place-at-requires c κs = start (c .before) .pre
 
 offsets-of-requires : tie.Need-offsets-of-requires
 offsets-of-requires c κs =
     let m = c .before in
     let k = known (m .before) in (
-      subst (λ (p : Place). Placed p (m .moment .result)) (sym (c .place-at .ensures)) (placed (table (m .before)) (asked (m .before) .before .pre .accepted) (m .moment .result)),
+      subst (λ (p : Place). Placed p (m .moment .result)) (sym (c .place-at .ensures)) (placed (table (m .before)) (start (m .before) .pre .accepted) (m .moment .result)),
       le-trans (le-of-eq (m .moment .ensures)) (moment-le _ _ (omega (arith, k .high)) (k .less)),
     )
 

@@ -1,4 +1,4 @@
--- `rows::number_wrong` meets its contract: each return has the tests that led there. Assumes nothing.
+-- `rows::number_out` meets its contract: each return has the tests that led there. Assumes nothing.
 use mathlib.Core.Path.{_≡_, sym, _∙_, ap}
 use mathlib.Core.Bool.{false}
 use native.Mathlib.Omega.{arith}
@@ -10,8 +10,8 @@ use mir.Facts.{toZ-ofZ}
 use Rattle.rows.specs.Table.{largest}
 use Rattle.rows.proofs.Limits.{xc-out, xs-out, no-uncertainty, uncertainty-out}
 use borrow.Author.Needs.{needs}
-use Rattle.rows.proofs.number_wrong.Statement.{statement}
-use Rattle.rows.proofs.number_wrong.Tie as tie
+use Rattle.rows.proofs.number_out.Statement.{statement}
+use Rattle.rows.proofs.number_out.Tie as tie
 
 xc-is : (c : tie.After-far) → c .far .result ≡ ltb largest (natAbs (c .before .before .args .r .xc))
 xc-is c =
@@ -57,7 +57,7 @@ returns-4 c =
     let e : tie.Else2 = l .before .before in
     uncertainty-out (else1 e .before .before .before .args .r) (xc-small (else1 e)) (xs-small e) (omega (arith, l .if3 .left))
 
-pub number-wrong-spec : {M : Type 1} → statement M
-number-wrong-spec =
+pub number-out-spec : {M : Type 1} → statement M
+number-out-spec =
     tie.close
     (tie.spec far-requires returns far-requires-2 returns-2 returns-3 cast-result returns-4)

@@ -1,27 +1,28 @@
--- `row_bytes::row_numbers` meets its contract: each number is that of its field's four bytes. Assumes nothing.
+-- `row_bytes::row_in` meets its contract: each number is that of its field's four bytes. Assumes nothing.
 use mathlib.Core.Path.{_≡_, _∙_, ap}
-use mathlib.Core.List.{List, [], _∷_}
-use Prim.Native.Nat.{ℕ, _+_, _^_, _<_}
+use mathlib.Core.List.{List}
+use Prim.Native.Nat.{ℕ, _+_}
 use native.Mathlib.Omega.{arith}
-use lib.IntN.{ℤ, pos}
+use lib.IntN.{ℤ}
 use lib.ListN.{getD}
 use denote.Ref.{now}
 use mir.Syntax.{w64}
 use mir.Val.{SFits}
-use mir.Facts.{toZ-ofZ, toZ-pos}
+use mir.Facts.{toZ-ofZ}
 use Rattle.bigendian.specs.Numbers.{numberAt, signedOf}
+use Rattle.rows.specs.Table.{row}
 use Rattle.row_bytes.specs.Form.{atLeast0, rowIn}
 use Rattle.row_bytes.specs.Inner.{wordOf}
 use borrow.Author.Needs.{needs}
-use Rattle.row_bytes.proofs.row_numbers.Statement.{statement}
-use Rattle.row_bytes.proofs.row_numbers.Tie as tie
+use Rattle.row_bytes.proofs.row_in.Statement.{statement}
+use Rattle.row_bytes.proofs.row_in.Tie as tie
 
 -- four bytes one behind the other
 word-is : (s : List ℕ) (i : ℕ) → wordOf (getD s (i + 0) 0) (getD s (i + 1) 0) (getD s (i + 2) 0) (getD s (i + 3) 0) ≡ numberAt s i 4
 word-is s i = omega arith
 
-four : {a a′ b b′ c c′ d d′ : ℤ} → a ≡ a′ → b ≡ b′ → c ≡ c′ → d ≡ d′ → _≡_ {A = List ℤ} (a ∷ b ∷ c ∷ d ∷ []) (a′ ∷ b′ ∷ c′ ∷ d′ ∷ [])
-four p q r s = cc
+four : {d d′ : ℕ} {c c′ s s′ : ℤ} {u u′ : ℕ} → d ≡ d′ → c ≡ c′ → s ≡ s′ → u ≡ u′ → row d c s u ≡ row d′ c′ s′ u′
+four p q t v = cc
 
 returns : tie.Need-returns
 unfolding rowIn
@@ -31,22 +32,20 @@ returns c =
     let w : tie.After-signed-word = v .before .before .before .before .before in
     let d : tie.After-word = w .before .before .before .before .before in
     let s : List ℕ = now (d .before .before .before .before .before .before .args .s) in
-    let l : d .word .result < 2 ^ 63 = omega (arith, d .word .ensures .1) in
     let fw : SFits w64 (w .signed-word .result) = search needs in
     let fv : SFits w64 (v .signed-word2 .result) = search needs in
     let fu : SFits w64 (u .signed-word3 .result) = search needs in
-    let fc : SFits w64 (c .at-least-0 .result) = search needs in
     let day : d .word .result ≡ numberAt s 0 4 = omega (arith, d .word .ensures .0) in
-    four (toZ-pos w64 l ∙ ap pos day)
+    four day
     (toZ-ofZ fw ∙ (w .signed-word .ensures ∙ ap (signedOf 4) (word-is s 4)))
     (toZ-ofZ fv ∙ (v .signed-word2 .ensures ∙ ap (signedOf 4) (word-is s 8)))
-    (toZ-ofZ fc ∙ (c .at-least-0 .ensures ∙ ap (λ (z : ℤ). pos (atLeast0 z)) (toZ-ofZ fu ∙ (u .signed-word3 .ensures ∙ ap (signedOf 4) (word-is s 12)))))
+    (c .at-least-0 .ensures ∙ ap atLeast0 (toZ-ofZ fu ∙ (u .signed-word3 .ensures ∙ ap (signedOf 4) (word-is s 12))))
 
-pub row-numbers-spec : {M : Type 1} → statement M
-row-numbers-spec =
+pub row-in-spec : {M : Type 1} → statement M
+row-in-spec =
     tie.close
     (tie.spec
-    (λ c. search needs) (λ c. search needs) (λ c. search needs) (λ c. search needs) (λ c κs. search needs) (λ c. search needs)
+    (λ c. search needs) (λ c. search needs) (λ c. search needs) (λ c. search needs) (λ c κs. search needs)
     (λ c. search needs) (λ c. search needs) (λ c. search needs) (λ c. search needs) (λ c κs. search needs)
     (λ c. search needs) (λ c. search needs) (λ c. search needs) (λ c. search needs) (λ c κs. search needs)
     (λ c. search needs) (λ c. search needs) (λ c. search needs) (λ c. search needs) (λ c κs. search needs) (λ c κs. search needs)
