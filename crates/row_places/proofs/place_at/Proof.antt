@@ -50,7 +50,7 @@ after-first : (c : tie.Else1) → rowMoment (rowAt (table (entry (c .before))) 0
 after-first c = lt-of-le-of-lt (le-of-eq (sym (first-date (c .before)))) (c .if1 .left)
 
 last-row : (c : tie.After-row-at2) → let s = entry (past (c .before) .before) in c .row-at2 .result ≡ rowAt (table s) (last s)
-last-row c = let s = entry (past (c .before) .before) in c .row-at2 .ensures ∙ ap (λ (n : ℕ). rowAt (table s) (n - 1)) (c .before .row-count .ensures ∙ sym (size s))
+last-row c = let s = entry (past (c .before) .before) in c .row-at2 .ensures ∙ ap (rowAt (table s)) (omega (arith, c .before .row-count .ensures, size s))
 
 last-date : (c : tie.After-row-moment2) → let s = entry (past (counted c) .before) in c .row-moment2 .result ≡ rowMoment (rowAt (table s) (last s))
 last-date c = c .row-moment2 .ensures ∙ ap rowMoment (last-row (c .before))
