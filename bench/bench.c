@@ -45,9 +45,9 @@ static struct row {
     double most, best_ours, best_other;
 } rows[] = {
     {"three corrections", corrections, corrections_plain, 0.45, 0, 0},
-    {"both offsets and the uncertainty, against two", offsets, offsets_plain, 2.1, 0, 0},
-    {"the same with 30 rows from bytes", offsets_30, offsets_30_plain, 2.8, 0, 0},
-    {"with 200 rows from bytes", offsets_200, offsets_200_plain, 2.3, 0, 0},
+    {"both offsets and the uncertainty, against two", offsets, offsets_plain, 1.9, 0, 0},
+    {"the same with 30 rows from bytes", offsets_30, offsets_30_plain, 1.5, 0, 0},
+    {"with 200 rows from bytes", offsets_200, offsets_200_plain, 1.8, 0, 0},
     {"with 30 rows, against our built-in ones", offsets_30, offsets, 0, 0, 0},
     {"with 200 rows, against our built-in ones", offsets_200, offsets, 0, 0, 0},
     {"day to date", date, date_plain, 1.1, 0, 0},

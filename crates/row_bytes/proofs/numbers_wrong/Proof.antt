@@ -40,7 +40,7 @@ loop-holds : tie.Need-loop-holds Inv-loop μ-loop
 loop-holds c = (omega arith, refl)
 
 row-at-requires : tie.Need-row-at-requires Inv-loop μ-loop
-row-at-requires c κs = (c .before .before .before .before .pre, below c)
+row-at-requires c κs = (c .before .before .before .before .pre, omega (arith, below c))
 
 number-out-requires : tie.Need-number-out-requires Inv-loop μ-loop
 number-out-requires c κs = tt

@@ -1,8 +1,11 @@
 -- `row_bytes::row_at` meets its contract: a row's bytes stand behind the head and the rows before it. Assumes nothing.
-use mathlib.Core.Path.{sym, _∙_, ap}
+use mathlib.Core.Path.{_≡_, sym, _∙_, ap}
 use mathlib.Core.List.{List}
-use Prim.Native.Nat.{ℕ, _+_, _*_}
+use Prim.Native.Nat.{ℕ, _+_, _-_, _*_}
+use native.Mathlib.Omega.{arith}
+use lib.ListN.{length, take, drop}
 use denote.Ref.{now}
+use Rattle.rows.specs.declared.Row.{Row}
 use Rattle.row_bytes.specs.Form.{headLength, rowLength, rowIn}
 use Rattle.row_bytes.proofs.Reading.{part-all, table-at}
 use borrow.Author.Needs.{needs}
@@ -27,11 +30,15 @@ part-row-in-end c = search needs
 row-in-requires : tie.Need-row-in-requires
 row-in-requires c κs = search needs
 
+-- what is read from the place n on, where n is the place m
+from : (s : List ℕ) {r : Row} {n : ℕ} → r ≡ rowIn (take (length s - n) (drop n s)) → (m : ℕ) → n ≡ m → r ≡ rowIn (drop m s)
+from s e m q = e ∙ (ap rowIn (part-all _ s) ∙ ap (λ (k : ℕ). rowIn (drop k s)) q)
+
 returns : tie.Need-returns
 returns c =
     let a = c .before .before .before in
     let s : List ℕ = now (a .args .s) in
-    c .row-in .ensures ∙ (ap rowIn (part-all (headLength + rowLength * a .args .i) s) ∙ sym (table-at s (a .args .i) (a .pre .1)))
+    from s (c .row-in .ensures) (headLength + rowLength * a .args .i) (omega arith) ∙ sym (table-at s (a .args .i) (a .pre .1))
 
 pub row-at-spec : {M : Type 1} → statement M
 row-at-spec = tie.close (tie.spec mul-at add-at sub-row-in part-row-in-start part-row-in-end row-in-requires returns)

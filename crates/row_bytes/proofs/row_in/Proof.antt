@@ -10,8 +10,9 @@ use mir.Syntax.{w64}
 use mir.Val.{SFits}
 use mir.Facts.{toZ-ofZ}
 use Rattle.bigendian.specs.Numbers.{numberAt, signedOf}
+use Rattle.bigendian.specs.Fields.{fieldAt, signedAt}
 use Rattle.rows.specs.Table.{row}
-use Rattle.row_bytes.specs.Form.{atLeast0, rowIn}
+use Rattle.row_bytes.specs.Form.{dayField, xcField, xsField, uncertaintyField, atLeast0, rowIn}
 use Rattle.row_bytes.specs.Inner.{wordOf}
 use borrow.Author.Needs.{needs}
 use Rattle.row_bytes.proofs.row_in.Statement.{statement}
@@ -35,11 +36,11 @@ returns c =
     let fw : SFits w64 (w .signed-word .result) = search needs in
     let fv : SFits w64 (v .signed-word2 .result) = search needs in
     let fu : SFits w64 (u .signed-word3 .result) = search needs in
-    let day : d .word .result ≡ numberAt s 0 4 = omega (arith, d .word .ensures .0) in
-    four day
-    (toZ-ofZ fw ∙ (w .signed-word .ensures ∙ ap (signedOf 4) (word-is s 4)))
-    (toZ-ofZ fv ∙ (v .signed-word2 .ensures ∙ ap (signedOf 4) (word-is s 8)))
-    (c .at-least-0 .ensures ∙ ap atLeast0 (toZ-ofZ fu ∙ (u .signed-word3 .ensures ∙ ap (signedOf 4) (word-is s 12))))
+    let day : d .word .result ≡ fieldAt s dayField = omega (arith, d .word .ensures .0) in
+    let xc : w .signed-word .result ≡ signedAt s xcField = w .signed-word .ensures ∙ ap (signedOf 4) (word-is s (xcField .at)) in
+    let xs : v .signed-word2 .result ≡ signedAt s xsField = v .signed-word2 .ensures ∙ ap (signedOf 4) (word-is s (xsField .at)) in
+    let uncertainty : u .signed-word3 .result ≡ signedAt s uncertaintyField = u .signed-word3 .ensures ∙ ap (signedOf 4) (word-is s (uncertaintyField .at)) in
+    four day (toZ-ofZ fw ∙ xc) (toZ-ofZ fv ∙ xs) (c .at-least-0 .ensures ∙ ap atLeast0 (toZ-ofZ fu ∙ uncertainty))
 
 pub row-in-spec : {M : Type 1} → statement M
 row-in-spec =
