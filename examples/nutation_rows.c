@@ -34,7 +34,7 @@ static const char *text(uint32_t refusal)
     case ENFYS_ROWS_DAY:
         return "the day of a row is outside 15020..88433, or not after that of the row before";
     case ENFYS_ROWS_SIZE:
-        return "an amplitude of a row is above 1000 microarcseconds, or its uncertainty outside 0.01..1000";
+        return "an amplitude of a row is outside -1000..1000 microarcseconds, or its uncertainty outside 0.01..1000";
     default:
         return "unknown to this program";
     }

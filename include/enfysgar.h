@@ -286,7 +286,7 @@ uint32_t enfys_nutation(int64_t day, uint64_t micros, int64_t *x, int64_t *y,
  *
  * A call reads `rows` and changes none of it. It keeps nothing: each call tests all
  * rows again, also where the caller knows that they are good. With 30 rows a call
- * takes about 0.14 microseconds and with 200 rows 0.7, where one with the built-in
+ * takes about 0.15 microseconds and with 200 rows 0.7, where one with the built-in
  * rows takes 0.05 (AMD EPYC; docs/BENCHMARKS.md of the source).
  *
  * The tool enfysgar-rows makes such bytes of a text that an operator can write, and

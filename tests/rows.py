@@ -152,6 +152,11 @@ def output_files(folder):
     other = ROW + b"50001 7 8 9\n"
     expect("a file replaced", run("pack", "-", "-o", link, data=other).returncode, 0)
     expect("a file replaced, by its link", (state(), os.path.islink(link)), ((of_text(other), 0o604, beside), True))
+    expect("standard output by name", (run("pack", "-o", "-", data=GOOD, cwd=folder).stdout, sorted(os.listdir(folder))), (of_text(GOOD), beside))
+    if os.geteuid() == 0:
+        os.chown(path, 65534, 65533)
+        expect("a file of others, replaced", run("pack", "-o", path, data=other).returncode, 0)
+        expect("its owner and group", (os.stat(path).st_uid, os.stat(path).st_gid, state()), (65534, 65533, (of_text(other), 0o604, beside)))
     said_once(run("pack", "-o", path, data=GOOD + ROW), "a refused text", "line 3")
     said_once(run("print", "-o", path, data=GOOD), "refused bytes", "refused 21")
     said_once(run("pack", "-o", path, data=GOOD, preexec_fn=lambda: resource.setrlimit(resource.RLIMIT_FSIZE, (10, 10))), "a full disk", path)

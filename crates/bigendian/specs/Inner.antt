@@ -1,4 +1,4 @@
--- What only the contracts of the code's own functions cite, here and in record.
+-- What only the contracts of the code's own functions cite.
 use Prim.Native.Nat.{ℕ, _+_}
 use mathlib.Core.List.{List, _++_}
 use lib.ListN.{take, drop}

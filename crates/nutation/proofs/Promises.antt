@@ -37,7 +37,7 @@ near-here rows t d m a = offsets-near rows t (momentOf d m) (accepted-le d m a)
 
 -- With any accepted table the answer at every accepted instant is given, both offsets within 2 nanoarcseconds of the exact ones and the uncertainty
 -- exact.
-pub answer-near : (rows : List Row) → AcceptedTable rows → (d : ℤ) (m : ℕ) → IsAccepted d m
+answer-near : (rows : List Row) → AcceptedTable rows → (d : ℤ) (m : ℕ) → IsAccepted d m
     → (o : Offsets) × (nutationWith rows d m ≡ Nutation o) × OffsetsNear rows (momentOf d m) o
 answer-near rows t d m a = (ourOffsets rows (momentOf d m), sym (answered-too NoNutation _ d m a), near-here rows t d m a)
 

@@ -1,7 +1,9 @@
 -- Demand 3 holds. Each field is proved from the theorem of its service that docs/PROMISES.md names. Assumes nothing.
-use mathlib.Core.Path.{refl, sym}
+use mathlib.Core.Path.{_≡_, refl, sym}
+use mathlib.Core.List.{[], _∷_}
+use lib.IntN.{pos, negℤ}
 use Rattle.instants.proofs.Moments.{accepted-moment}
-use Rattle.rows.specs.Table.{daysWrong, numbersWrong}
+use Rattle.rows.specs.Table.{row, daysWrong, numbersWrong}
 use Rattle.rows.proofs.Places.{row-date}
 use Rattle.row_bytes.specs.Form.{rowIn, rowsIn, tableIn, AcceptedBytes}
 use Rattle.zonal.proofs.Promises.{accepted-answered}
@@ -10,9 +12,15 @@ use Rattle.run.proofs.ReadBack.{run-reads, some-not-refused}
 use Rattle.nutation.proofs.Promises.{nutation-near, rows-near, no-constant-x, no-constant-y}
 use Rattle.promises.specs.Distance.{twoRows, Distance}
 
-some-rows : AcceptedBytes twoRows
+-- ---- some rows, computed
+
+some-accepted : AcceptedBytes twoRows
 unfolding tableIn rowsIn rowIn daysWrong numbersWrong
-some-rows = refl
+some-accepted = refl
+
+some-read : tableIn twoRows ≡ row 15020 (pos 0) (pos 0) 1 ∷ row 88433 (negℤ (pos 100_000)) (pos 100_000) 100_000 ∷ []
+unfolding tableIn rowsIn rowIn
+some-read = refl
 
 -- PROMISE. Demand 3: distance.
 pub distance : Distance
@@ -26,6 +34,6 @@ distance = record {
   row-dates = row-date;
   offsets-near = nutation-near;
   rows-near = rows-near;
-  some-rows = some-rows;
+  some-rows = (some-accepted, some-read);
   offsets-vary = λ c. (no-constant-x c, no-constant-y c);
 }

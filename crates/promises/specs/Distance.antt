@@ -4,7 +4,7 @@
 use Prim.Native.Nat.{ℕ, _*_, _≤_, _<_}
 use mathlib.Core.Path.{_≡_}
 use mathlib.Core.List.{List, [], _∷_}
-use lib.IntN.{ℤ, pos}
+use lib.IntN.{ℤ, pos, negℤ}
 use lib.ListN.{length, take, drop}
 use Rattle.instants.specs.Instants.{IsAccepted, laterDay, laterMicros}
 use Rattle.instants.specs.Moments.{sinceJ2000, momentOf, since}
@@ -13,6 +13,7 @@ use Rattle.zonal.specs.declared.Corrections.{Corrections}
 use Rattle.record.specs.Format.{recordLength}
 use Rattle.run.specs.Run.{runRefusal, runWritten}
 use Rattle.run.specs.ReadBack.{ReadsAt}
+use Rattle.rows.specs.Table.{row}
 use Rattle.rows.specs.BuiltIn.{builtIn}
 use Rattle.rows.specs.Places.{rowMoment}
 use Rattle.rows.specs.declared.Row.{Row}
@@ -24,7 +25,8 @@ use Rattle.nutation.specs.Claims.{OffsetsNear}
 use Rattle.nutation.specs.declared.Offsets.{Offsets}
 use Rattle.nutation.specs.declared.NutationAnswer.the-variants.{Nutation}
 
--- two rows as bytes: of the first day, with no amplitude and the least uncertainty; of the last, with the largest amplitudes and uncertainty
+-- two rows as bytes: of the first day, with no amplitude and the least uncertainty; of the last, with the largest amplitudes, XC below 0 and XS above,
+-- and the largest uncertainty
 abbrev pub twoRows : List ℕ
 twoRows =
     0 ∷ 35 ∷ 1
@@ -53,8 +55,8 @@ pub record Distance : Type 0 where
   -- and so with the rows of any accepted bytes, by those rows
   pub rows-near : (s : List ℕ) → AcceptedBytes s → (d : ℤ) (m : ℕ) → IsAccepted d m
       → (o : Offsets) × (nutationRowsOf s d m ≡ Nutation o) × OffsetsNear (tableIn s) (momentOf d m) o
-  -- accepted bytes exist
-  pub some-rows : AcceptedBytes twoRows
+  -- accepted bytes exist, and hold these rows
+  pub some-rows : AcceptedBytes twoRows × (tableIn twoRows ≡ row 15020 (pos 0) (pos 0) 1 ∷ row 88433 (negℤ (pos 100_000)) (pos 100_000) 100_000 ∷ [])
   -- no constant offset would do
   pub offsets-vary : (c : ℤ)
       → (((d : ℤ) (m : ℕ) → IsAccepted d m → nutation.OffsetWithin c (exactX builtIn (momentOf d m)) (exactDen builtIn (momentOf d m))) → ⊥)

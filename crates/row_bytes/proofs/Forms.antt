@@ -13,7 +13,7 @@ use Rattle.rows.specs.Table.{rowAt, fewestRows, mostRows, tableCases, AcceptedT
 use Rattle.rows.specs.Inner.{AcceptedRow}
 use Rattle.rows.proofs.Accepted.{accepted-row}
 use Rattle.row_bytes.specs.Form.{headLength, lengthField, versionField, version, formLength, rowCount, tableIn, formCases, bytesCases, AcceptedBytes}
-use Rattle.row_bytes.specs.Inner.{formRefusal, bytesRefusal, Lent}
+use Rattle.row_bytes.specs.Inner.{formRefusal, bytesRefusal, Whole, Lent}
 use Rattle.row_bytes.proofs.Reading.{table-count}
 
 -- bytes of the right form
@@ -22,10 +22,10 @@ pub record Formed (s : List ℕ) : Type 0 where
   pub size : fieldAt s lengthField ≡ length s
   pub fewest : fewestRows ≤ rowCount (length s)
   pub most : rowCount (length s) ≤ mostRows
-  pub whole : length s ≡ formLength (rowCount (length s))
+  pub whole : Whole s
   pub version : fieldAt s versionField ≡ version
 
-pub none-formed : (s : List ℕ) → NoneApplies (formCases s) → Formed s
+none-formed : (s : List ℕ) → NoneApplies (formCases s) → Formed s
 none-formed s h = record {
   long = ltb-false _ _ (h .0);
   size = eqb-true _ _ (not-false _ (h .1 .0));
@@ -81,7 +81,7 @@ lent s e = record { whole = accepted-form s e .whole; accepted = table-held s e 
 
 -- of which there are two or more, each within its limits
 module _ (s : List ℕ) (l : Lent s) where
-  pub lent-two : 2 ≤ rowCount (length s)
+  pub lent-two : fewestRows ≤ rowCount (length s)
   lent-two = omega (arith, table-count s, l .accepted .fewest)
 
   pub lent-row : (i : ℕ) → i < rowCount (length s) → AcceptedRow (rowAt (tableIn s) i)

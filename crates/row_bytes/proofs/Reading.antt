@@ -1,13 +1,18 @@
--- The rows in bytes: how many they are, and where each stands. Assumes nothing.
+-- The rows in bytes: how many they are, where each stands, and when two are the same. Assumes nothing.
 use Prim.Native.Nat.{ℕ, zero, suc, _+_, _-_, _*_, _<_}
 use mathlib.Core.Path.{_≡_, refl, ap, _∙_}
 use mathlib.Core.List.{List}
 use native.Mathlib.Nat.{le-of-eq, not-suc-le-zero, le-of-suc-le-suc}
 use native.Mathlib.Omega.{arith}
+use lib.IntN.{ℤ}
 use lib.ListN.{length, take, drop, length-drop}
 use lib.Seq.{take-all, drop-drop}
-use Rattle.rows.specs.Table.{rowAt}
+use Rattle.rows.specs.Table.{row, rowAt}
 use Rattle.row_bytes.specs.Form.{headLength, rowLength, rowIn, rowsIn, rowCount, tableIn}
+
+-- a row is its four numbers
+pub four : {d d′ : ℕ} {c c′ s s′ : ℤ} {u u′ : ℕ} → d ≡ d′ → c ≡ c′ → s ≡ s′ → u ≡ u′ → row d c s u ≡ row d′ c′ s′ u′
+four p q t v = cc
 
 -- a part of s that goes to its end
 pub part-all : (a : ℕ) (s : List ℕ) → take (length s - a) (drop a s) ≡ drop a s

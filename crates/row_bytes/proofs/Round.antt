@@ -11,9 +11,10 @@ use Rattle.bigendian.specs.Fields.{fieldAt, signedAt}
 use Rattle.bigendian.proofs.Signs.{FitsBytes}
 use Rattle.bigendian.proofs.Fields.{number-back, signed-back}
 use Rattle.rows.specs.declared.Row.{Row}
-use Rattle.rows.specs.Table.{row, rowAt, largest, AcceptedTable}
+use Rattle.rows.specs.Table.{rowAt, largest, AcceptedTable}
 use Rattle.rows.specs.Inner.{AcceptedRow}
 use Rattle.rows.proofs.Accepted.{accepted-row}
+use Rattle.row_bytes.proofs.Reading.{four}
 use Rattle.row_bytes.proofs.Forms.{bytes-accepted}
 use Rattle.row_bytes.specs.Form.{lengthField, versionField, version, headLength, dayField, xcField, xsField, uncertaintyField, rowLength, formLength, rowBytes, allBytes, tableBytes, atLeast0, rowIn, rowsIn, rowCount, tableIn, AcceptedBytes}
 
@@ -47,9 +48,6 @@ module _ (r : Row) (a : AcceptedRow r) (rest : List ℕ) where
   row-back : rowIn S ≡ r
   unfolding rowIn
   row-back = four day-back xc-back xs-back (ap atLeast0 uncertainty-back)
-    where
-      four : {d d′ : ℕ} {c c′ s s′ : ℤ} {u u′ : ℕ} → d ≡ d′ → c ≡ c′ → s ≡ s′ → u ≡ u′ → row d c s u ≡ row d′ c′ s′ u′
-      four p q t v = cc
 
   row-gone : drop rowLength S ≡ rest
   unfolding rowBytes

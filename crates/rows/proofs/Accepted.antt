@@ -19,20 +19,21 @@ use Rattle.rows.specs.Inner.{AcceptedRow}
 -- ---- a test over all rows
 
 -- that finds nothing
-pub none-at : (f : ℕ → Bool) (n : ℕ) → someBelow n f ≡ false → (i : ℕ) → i < n → f i ≡ false
+none-at : (f : ℕ → Bool) (n : ℕ) → someBelow n f ≡ false → (i : ℕ) → i < n → f i ≡ false
 none-at f zero e i h = absurd (N.not-suc-le-zero h)
 none-at f (suc n) e i h =
     let o = both-false (f n) (someBelow n f) e in
     ⊎-elim (λ (p : i ≡ n). ap f p ∙ o .0) (λ p. none-at f n (o .1) i p) (N.eq-or-lt-of-le (N.le-of-suc-le-suc h))
 
+-- so far, with one index more
 pub none-more : (f : ℕ → Bool) (n : ℕ) → someBelow n f ≡ false → f n ≡ false → someBelow (suc n) f ≡ false
 none-more f n e g = rw g e
 
-pub none-found : (f : ℕ → Bool) (n : ℕ) → ((i : ℕ) → i < n → f i ≡ false) → someBelow n f ≡ false
+none-found : (f : ℕ → Bool) (n : ℕ) → ((i : ℕ) → i < n → f i ≡ false) → someBelow n f ≡ false
 none-found f zero h = refl
 none-found f (suc n) h = none-more f n (none-found f n (λ i k. h i (N.le-trans k (N.le-suc n)))) (h n (N.le-refl (suc n)))
 
--- and one that finds something, or has found nothing so far
+-- and one that finds something
 pub some-at : (f : ℕ → Bool) (n i : ℕ) → i < n → f i ≡ true → someBelow n f ≡ true
 some-at f zero i h e = absurd (N.not-suc-le-zero h)
 some-at f (suc n) i h e =

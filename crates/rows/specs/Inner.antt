@@ -20,21 +20,20 @@ pub record AcceptedRow (r : Row) : Type 0 where
 
 -- ---- where x is among the rows
 
+-- x is at or after the date of the row a, and before that of b
+pub record Inside (a b : Row) (x : ℕ) : Type 0 where
+  pub low : rowMoment a ≤ x
+  pub high : x < rowMoment b
+
 -- x is neither before the first row's date nor at or after the last row's
-pub record Amid (rows : List Row) (x : ℕ) : Type 0 where
-  pub low : rowMoment (rowAt rows 0) ≤ x
-  pub high : x < rowMoment (rowAt rows (length rows - 1))
+abbrev pub Amid : List Row → ℕ → Type 0
+Amid rows x = Inside (rowAt rows 0) (rowAt rows (length rows - 1)) x
 
 -- the lookup: the row i is dated at or before x, and the next after it
 pub record Bracket (rows : List Row) (x i : ℕ) : Type 0 where
   pub within : i + 1 < length rows
   pub low : rowMoment (rowAt rows i) ≤ x
   pub high : x < rowMoment (rowAt rows (i + 1))
-
--- x is at or after the date of the row a, and before that of b
-pub record Inside (a b : Row) (x : ℕ) : Type 0 where
-  pub low : rowMoment a ≤ x
-  pub high : x < rowMoment b
 
 -- what the place of x among accepted rows has
 abbrev pub Placed : Place → ℕ → Type 0

@@ -73,7 +73,7 @@ numbersWrong rows = someBelow (length rows) (λ i. numberOut (rowAt rows i))
 abbrev pub tableCases : List Row → List Case
 tableCases rows = case 23 (daysWrong rows) ∷ case 24 (numbersWrong rows) ∷ []
 
--- a table that is accepted: as many rows as a table has, and neither refusal
+-- a table that is accepted: its number of rows is within the limits, and neither refusal applies
 pub record AcceptedTable (rows : List Row) : Type 0 where
   pub fewest : fewestRows ≤ length rows
   pub most : length rows ≤ mostRows

@@ -1,5 +1,5 @@
 -- `nutation::nutation_of` meets its contract: the bytes of the built-in rows are accepted, and their rows are read back. Assumes nothing.
-use mathlib.Core.Path.{_≡_, sym, _∙_, ap, ap₂, subst}
+use mathlib.Core.Path.{sym, _∙_, ap, ap₂, subst}
 use mathlib.Core.List.{List}
 use lib.IntN.{ℤ}
 use mir.Facts.{toZ-ofZ}

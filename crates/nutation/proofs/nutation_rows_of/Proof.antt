@@ -1,5 +1,5 @@
 -- `nutation::nutation_rows_of` meets its contract: the bytes are refused, or they are accepted and the service over their rows answers. Assumes nothing.
-use mathlib.Core.Path.{_≡_, sym, _∙_, ap}
+use mathlib.Core.Path.{sym, _∙_, ap}
 use mathlib.Core.List.{List}
 use Prim.Native.Nat.{ℕ}
 use native.Mathlib.Omega.{arith}

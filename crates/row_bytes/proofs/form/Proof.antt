@@ -29,7 +29,7 @@ else3 c = c .before
 abbrev else4 : tie.Else5 → tie.Else4
 else4 c = c .before
 
--- the bytes, and the five tests
+-- the bytes, and the six tests
 abbrev bytes : tie.Else1 → List ℕ
 bytes c = now (c .before .before .args .s)
 

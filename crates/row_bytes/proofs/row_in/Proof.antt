@@ -3,7 +3,6 @@ use mathlib.Core.Path.{_≡_, _∙_, ap}
 use mathlib.Core.List.{List}
 use Prim.Native.Nat.{ℕ, _+_}
 use native.Mathlib.Omega.{arith}
-use lib.IntN.{ℤ}
 use lib.ListN.{getD}
 use denote.Ref.{now}
 use mir.Syntax.{w64}
@@ -11,9 +10,9 @@ use mir.Val.{SFits}
 use mir.Facts.{toZ-ofZ}
 use Rattle.bigendian.specs.Numbers.{numberAt, signedOf}
 use Rattle.bigendian.specs.Fields.{fieldAt, signedAt}
-use Rattle.rows.specs.Table.{row}
 use Rattle.row_bytes.specs.Form.{dayField, xcField, xsField, uncertaintyField, atLeast0, rowIn}
 use Rattle.row_bytes.specs.Inner.{wordOf}
+use Rattle.row_bytes.proofs.Reading.{four}
 use borrow.Author.Needs.{needs}
 use Rattle.row_bytes.proofs.row_in.Statement.{statement}
 use Rattle.row_bytes.proofs.row_in.Tie as tie
@@ -21,9 +20,6 @@ use Rattle.row_bytes.proofs.row_in.Tie as tie
 -- four bytes one behind the other
 word-is : (s : List ℕ) (i : ℕ) → wordOf (getD s (i + 0) 0) (getD s (i + 1) 0) (getD s (i + 2) 0) (getD s (i + 3) 0) ≡ numberAt s i 4
 word-is s i = omega arith
-
-four : {d d′ : ℕ} {c c′ s s′ : ℤ} {u u′ : ℕ} → d ≡ d′ → c ≡ c′ → s ≡ s′ → u ≡ u′ → row d c s u ≡ row d′ c′ s′ u′
-four p q t v = cc
 
 returns : tie.Need-returns
 unfolding rowIn
