@@ -79,10 +79,13 @@ table-held s e =
 pub lent : (s : List ℕ) → AcceptedBytes s → Lent s
 lent s e = record { whole = accepted-form s e .whole; accepted = table-held s e }
 
--- of which there are two or more, each within its limits
+-- of which there are two to 200, each within its limits
 module _ (s : List ℕ) (l : Lent s) where
   pub lent-two : fewestRows ≤ rowCount (length s)
   lent-two = omega (arith, table-count s, l .accepted .fewest)
+
+  pub lent-few : rowCount (length s) ≤ mostRows
+  lent-few = omega (arith, table-count s, l .accepted .most)
 
   pub lent-row : (i : ℕ) → i < rowCount (length s) → AcceptedRow (rowAt (tableIn s) i)
   lent-row i h = accepted-row (tableIn s) (l .accepted) i (omega (arith, table-count s, h))

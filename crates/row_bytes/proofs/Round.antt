@@ -13,9 +13,11 @@ use Rattle.bigendian.proofs.Fields.{number-back, signed-back}
 use Rattle.rows.specs.declared.Row.{Row}
 use Rattle.rows.specs.Table.{rowAt, largest, AcceptedTable}
 use Rattle.rows.specs.Inner.{AcceptedRow}
-use Rattle.rows.proofs.Accepted.{accepted-row}
+use Rattle.rows.specs.BuiltIn.{builtIn}
+use Rattle.rows.proofs.Accepted.{accepted-row, builtIn-accepted}
 use Rattle.row_bytes.proofs.Reading.{four}
-use Rattle.row_bytes.proofs.Forms.{bytes-accepted}
+use Rattle.row_bytes.proofs.Forms.{bytes-accepted, lent}
+use Rattle.row_bytes.specs.Inner.{Lent}
 use Rattle.row_bytes.specs.Form.{lengthField, versionField, version, headLength, dayField, xcField, xsField, uncertaintyField, rowLength, formLength, rowBytes, allBytes, tableBytes, atLeast0, rowIn, rowsIn, rowCount, tableIn, AcceptedBytes}
 
 -- ---- a row
@@ -114,3 +116,10 @@ module _ (rows : List Row) where
         whole = table-size ∙ ap formLength (sym count-back);
         version = version-back;
       }) (rw (table-back a) a)
+
+-- the built-in rows, written as bytes
+pub built-in-lent : Lent (tableBytes builtIn)
+built-in-lent = lent (tableBytes builtIn) (table-accepted builtIn builtIn-accepted)
+
+pub built-in-back : tableIn (tableBytes builtIn) ≡ builtIn
+built-in-back = table-back builtIn builtIn-accepted

@@ -1,14 +1,24 @@
-// Where a moment is among the rows in bytes, and the built-in rows as bytes.
+// Where a moment is among the rows in bytes, how many of them are probed to find out, and the built-in rows as bytes.
 // Derived from the IERS routine FCNNUT; not IERS Conventions software (NOTICE, docs/DIFFERENCES.md).
+use instants::Acceptance;
 use row_bytes::row_at;
 use rows::Place;
 use rows::row_moment;
 ghost use mathlib.Core.Path.{_≡_};
+ghost use Prim.Native.Nat.{_<_};
+ghost use lib.ListN.{length};
 ghost use Rattle.rows.specs.BuiltIn.{builtIn};
 ghost use Rattle.rows.specs.Places.{place};
-ghost use Rattle.rows.specs.Inner.{Amid, Bracket};
-ghost use Rattle.row_bytes.specs.Form.{tableBytes, tableIn};
+ghost use Rattle.row_bytes.specs.Form.{rowCount, tableBytes, tableIn};
 ghost use Rattle.row_bytes.specs.Inner.{Lent};
+ghost use Rattle.row_places.specs.Lookup.{bracket, halving, lookupOf, probesWith, probesOf, probesRowsOf};
+
+// The rows at two ends, as indices, and the probes that led to them.
+pub struct Bracket {
+    pub lower: usize,
+    pub upper: usize,
+    pub probes: u64,
+}
 
 // The built-in rows, in the byte form that tools/rows makes of examples/built_in_rows.txt: the head, then a row on a line (the day, XC, XS and the
 // uncertainty, four bytes each).
@@ -49,21 +59,52 @@ pub fn built_in() -> [u8; 483]
         \x00\x00\xdb\xe5\x00\x00\x2c\x4e\x00\x00\x64\x32\x00\x00\x00\xba"
 }
 
-// The index of the last row that is dated at or before a moment, which is neither before the first row nor at or after the last.
-fn lookup(s: &[u8], x: u64) -> usize
+// What halving leaves of the first and the last row: the middle row is probed until the two are neighbours.
+fn halve(s: &[u8], x: u64, last: usize) -> Bracket
     requires table { ⌜ Lent (now s) ⌝ }
-    requires amid { ⌜ Amid (tableIn (now s)) x ⌝ }
-    ensures { λ i. ⌜ Bracket (tableIn (now (s .entry))) x i ⌝ }
+    requires last { ⌜ last < rowCount (length (now s)) ⌝ }
+    ensures { λ b. ⌜ b ≡ halving (tableIn (now (s .entry))) x (bracket 0 last 0) ⌝ }
 {
-    let last = row_bytes::row_count(s.len()) - 2;
-    let mut i: usize = 0;
-    while i < last {
-        if x < row_moment(row_at(s, i + 1)) {
-            return i;
+    let mut lower: usize = 0;
+    let mut upper = last;
+    let mut probes: u64 = 0;
+    while lower + 1 < upper {
+        let middle = (lower + upper) / 2;
+        probes = probes + 1;
+        if row_moment(row_at(s, middle)) <= x {
+            lower = middle;
+        } else {
+            upper = middle;
         }
-        i = i + 1;
     }
-    i
+    Bracket {
+        lower: lower,
+        upper: upper,
+        probes: probes,
+    }
+}
+
+// The lookup: the row of an end, or the two rows that a moment is between, and the probes that it took.
+fn lookup(s: &[u8], x: u64) -> Bracket
+    requires { ⌜ Lent (now s) ⌝ }
+    ensures { λ b. ⌜ b ≡ lookupOf (tableIn (now (s .entry))) x ⌝ }
+{
+    if x <= row_moment(row_at(s, 0)) {
+        return Bracket {
+            lower: 0,
+            upper: 0,
+            probes: 0,
+        };
+    }
+    let last = row_bytes::row_count(s.len()) - 1;
+    if row_moment(row_at(s, last)) <= x {
+        return Bracket {
+            lower: last,
+            upper: last,
+            probes: 0,
+        };
+    }
+    halve(s, x, last)
 }
 
 // The place of a moment among the rows in bytes that are lent.
@@ -71,14 +112,39 @@ pub fn place_at(s: &[u8], x: u64) -> Place
     requires { ⌜ Lent (now s) ⌝ }
     ensures { λ p. ⌜ p ≡ place (tableIn (now (s .entry))) x ⌝ }
 {
-    let first = row_at(s, 0);
-    if x <= row_moment(first) {
-        return Place::End(first);
+    let b = lookup(s, x);
+    let lower = row_at(s, b.lower);
+    if b.lower == b.upper {
+        return Place::End(lower);
     }
-    let last = row_at(s, row_bytes::row_count(s.len()) - 1);
-    if row_moment(last) <= x {
-        return Place::End(last);
+    Place::Between(lower, row_at(s, b.upper))
+}
+
+// The probes at an instant among the rows in bytes that are lent, or 0 beside refusal 8 or 9.
+fn probes_with(s: &[u8], day: i64, micros: u64) -> u64
+    requires { ⌜ Lent (now s) ⌝ }
+    ensures { λ r. ⌜ r ≡ probesWith (tableIn (now (s .entry))) day micros ⌝ }
+{
+    match instants::accept(day, micros) {
+        Acceptance::NotAccepted(_) => 0,
+        Acceptance::Accepted(i) => lookup(s, instants::moment(i, micros)).probes,
     }
-    let i = lookup(s, x);
-    Place::Between(row_at(s, i), row_at(s, i + 1))
+}
+
+// With the built-in rows.
+pub fn probes_of(day: i64, micros: u64) -> u64
+    ensures { λ r. ⌜ r ≡ probesOf day micros ⌝ }
+{
+    let s = built_in();
+    probes_with(&s, day, micros)
+}
+
+// With the rows in the bytes s, or 0 beside refusals 21 to 24 as well.
+pub fn probes_rows_of(s: &[u8], day: i64, micros: u64) -> u64
+    ensures { λ r. ⌜ r ≡ probesRowsOf (now (s .entry)) day micros ⌝ }
+{
+    if row_bytes::refusal(s) != 0 {
+        return 0;
+    }
+    probes_with(s, day, micros)
 }

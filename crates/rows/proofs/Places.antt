@@ -1,5 +1,5 @@
 -- Where a moment x is among the rows. `started` counts the rows dated at or before x: the last of them is at or before x and the next after it, so that
--- the place is an end's row or two neighbours around x. Since the dates rise, only one pair of neighbours is around x, so that a pair that the lookup
+-- the place is an end's row or two neighbours around x. Since the dates rise, only one pair of neighbours is around x, so that a pair that a lookup
 -- finds is that of the definition.
 -- Assumes nothing.
 use mathlib.Core.Path.{_≡_, sym, ap, subst}
@@ -23,7 +23,7 @@ use Rattle.algebra.proofs.Ring.{end, _▹_, ring, quote}
 use Rattle.instants.specs.Limits.{dayMicros, indexOffset}
 use Rattle.instants.specs.Moments.{sinceJ2000, since}
 use Rattle.instants.proofs.Moments.{moment-is}
-use Rattle.rows.specs.Inner.{Bracket, Inside, Placed}
+use Rattle.rows.specs.Inner.{Inside, Placed}
 use Rattle.rows.proofs.Accepted.{accepted-row, rising}
 
 -- ---- a row's date
@@ -128,7 +128,13 @@ place-case P rows x nonempty ends inside =
 pub placed : (rows : List Row) → AcceptedTable rows → (x : ℕ) → Placed (place rows x) x
 placed rows a x = place-case (λ p. Placed p x) rows x (N.le-of-suc-le (a .fewest)) (λ i l. accepted-row rows a i l) (λ i l k. (accepted-row rows a i (N.le-of-suc-le l), accepted-row rows a (suc i) l, k))
 
--- ---- the lookup: rows i and i + 1 are around x for one i only
+-- ---- rows i and i + 1 are around x for one i only
+
+-- the row i is dated at or before x, and the next after it
+pub record Around (rows : List Row) (x i : ℕ) : Type 0 where
+  pub within : i + 1 < length rows
+  pub low : rowMoment (rowAt rows i) ≤ x
+  pub high : x < rowMoment (rowAt rows (i + 1))
 
 -- from one row to a later one
 later : (rows : List Row) → AcceptedTable rows → (j n : ℕ) → j + n < length rows → rowAt rows j .day ≤ rowAt rows (j + n) .day
@@ -156,8 +162,8 @@ clash : {x p q : ℕ} → x < p → p ≤ q → q ≤ x → ⊥
 clash h k l = omega arith
 
 -- fewer rows or more would put x on the wrong side of a date
-bracket-is : (rows : List Row) → AcceptedTable rows → (x i : ℕ) → Bracket rows x i → started rows x ≡ i + 1
-bracket-is rows a x i b = N.le-antisymm (at-least (i + 1) s not-more) (at-least s (i + 1) not-less)
+around-is : (rows : List Row) → AcceptedTable rows → (x i : ℕ) → Around rows x i → started rows x ≡ i + 1
+around-is rows a x i b = N.le-antisymm (at-least (i + 1) s not-more) (at-least s (i + 1) not-less)
   where
     s : ℕ
     s = started rows x
@@ -179,10 +185,10 @@ module _ (rows : List Row) (x : ℕ) where
   unfolding place
   place-last h k = simp (lt-leb x (rowMoment (rowAt rows 0)) h, le-leb (rowMoment (rowAt rows (length rows - 1))) x k)
 
-  pub place-between : AcceptedTable rows → (i : ℕ) → rowMoment (rowAt rows 0) < x → x < rowMoment (rowAt rows (length rows - 1)) → Bracket rows x i
+  pub place-between : AcceptedTable rows → (i : ℕ) → rowMoment (rowAt rows 0) < x → x < rowMoment (rowAt rows (length rows - 1)) → Around rows x i
       → place rows x ≡ Between (rowAt rows i) (rowAt rows (i + 1))
   unfolding place
-  place-between a i h k b = simp (lt-leb x (rowMoment (rowAt rows 0)) h, lt-leb (rowMoment (rowAt rows (length rows - 1))) x k, bracket-is rows a x i b, less)
+  place-between a i h k b = simp (lt-leb x (rowMoment (rowAt rows 0)) h, lt-leb (rowMoment (rowAt rows (length rows - 1))) x k, around-is rows a x i b, less)
     where
       less : i + 1 - 1 ≡ i
       less = omega arith

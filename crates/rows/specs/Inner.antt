@@ -1,12 +1,10 @@
--- What only the contracts of the code's own functions cite, here, in row_places and in nutation.
-use mathlib.Core.List.{List}
-use Prim.Native.Nat.{ℕ, _+_, _-_, _≤_, _<_}
+-- What only the contracts of the code's own functions cite, here and in nutation.
+use Prim.Native.Nat.{ℕ, _≤_, _<_}
 use lib.IntN.{natAbs}
-use lib.ListN.{length}
 use Rattle.rows.specs.declared.Row.{Row}
 use Rattle.rows.specs.declared.Place.{Place}
 use Rattle.rows.specs.declared.Place.the-variants.{End, Between}
-use Rattle.rows.specs.Table.{rowAt, firstRowDay, lastRowDay, largest}
+use Rattle.rows.specs.Table.{firstRowDay, lastRowDay, largest}
 use Rattle.rows.specs.Places.{rowMoment}
 
 -- what a row of an accepted table has: its date, both amplitudes and its uncertainty, which is above 0, are within their limits
@@ -24,16 +22,6 @@ pub record AcceptedRow (r : Row) : Type 0 where
 pub record Inside (a b : Row) (x : ℕ) : Type 0 where
   pub low : rowMoment a ≤ x
   pub high : x < rowMoment b
-
--- x is neither before the first row's date nor at or after the last row's
-abbrev pub Amid : List Row → ℕ → Type 0
-Amid rows x = Inside (rowAt rows 0) (rowAt rows (length rows - 1)) x
-
--- the lookup: the row i is dated at or before x, and the next after it
-pub record Bracket (rows : List Row) (x i : ℕ) : Type 0 where
-  pub within : i + 1 < length rows
-  pub low : rowMoment (rowAt rows i) ≤ x
-  pub high : x < rowMoment (rowAt rows (i + 1))
 
 -- what the place of x among accepted rows has
 abbrev pub Placed : Place → ℕ → Type 0

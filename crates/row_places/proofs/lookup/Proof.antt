@@ -1,9 +1,8 @@
--- `row_places::lookup` meets its contract. The loop's invariant: the row i is dated at or before x, and a row comes after it. It ends at the first i whose
--- next row is dated after x, or at the last but one, whose next row is the last. Assumes nothing.
-use mathlib.Core.Path.{_≡_, sym, _∙_, ap, subst}
+-- `row_places::lookup` meets its contract, by the three cases of the definition: the first row, the last, and what halving leaves of both. Assumes nothing.
+use mathlib.Core.Path.{_≡_, sym, _∙_, ap}
 use mathlib.Core.List.{List}
-use Prim.Native.Nat.{ℕ, _+_, _-_, _≤_, _<_}
-use native.Mathlib.Nat.{le-trans, le-of-eq, lt-of-lt-of-le}
+use Prim.Native.Nat.{ℕ, _-_, _≤_, _<_}
+use native.Mathlib.Nat.{le-trans, le-of-eq, lt-of-le-of-lt, lt-of-lt-of-le}
 use native.Mathlib.Omega.{arith}
 use lib.ListN.{length}
 use Rattle.rows.specs.declared.Row.{Row}
@@ -12,107 +11,105 @@ use Rattle.rows.specs.Places.{rowMoment}
 use Rattle.row_bytes.specs.Form.{rowCount, tableIn}
 use Rattle.row_bytes.proofs.Reading.{table-count}
 use Rattle.row_bytes.proofs.Forms.{lent-two, lent-row}
+use Rattle.row_places.specs.Lookup.{bracket, halving}
+use Rattle.row_places.proofs.Probes.{lookup-first, lookup-last, lookup-amid}
+use borrow.Author.Needs.{needs}
 use Rattle.row_places.proofs.lookup.Statement.{statement}
 use Rattle.row_places.proofs.lookup.Tie as tie
 
-abbrev Inv-loop : tie.InvT-loop
-Inv-loop s x last i₀ i = (i + 2 ≤ rowCount (length s)) × (rowMoment (rowAt (tableIn s) i) ≤ x)
+-- ---- places of the code: the entry, from the first row's date; past the first test, from the rows counted; these, from the last row's date
 
-abbrev μ-loop : tie.MeasureT-loop
-μ-loop s x last i₀ i = rowCount (length s) - i
+abbrev entry : tie.After-row-moment → tie.Start
+entry c = c .before .before .before
 
--- ---- places of the code
+abbrev past : tie.After-row-count → tie.Else1
+past c = c .before
 
--- a round, from the next row's date; the rows counted and the entry, from the loop's head
-abbrev round : tie.After-row-moment Inv-loop μ-loop → tie.In-loop Inv-loop μ-loop
-round c = c .before .before
-
-abbrev counted : tie.At-loop Inv-loop μ-loop → tie.After-row-count Inv-loop μ-loop
-counted h = h .before
-
-abbrev entry : tie.After-row-count Inv-loop μ-loop → tie.Start Inv-loop μ-loop
-entry c = c .before .before
-
--- the bytes
-abbrev bytes : tie.At-loop Inv-loop μ-loop → List ℕ
-bytes h = entry (counted h) .args .s .now
+abbrev counted : tie.After-row-moment2 → tie.After-row-count
+counted c = c .before .before
 
 -- ---- facts there
 
-two : (c : tie.After-row-count Inv-loop μ-loop) → 2 ≤ rowCount (length (entry c .args .s .now))
-two c = lent-two _ (entry c .pre .0)
+abbrev table : tie.Start → List Row
+table s = tableIn (s .args .s .now)
 
--- the next row's index, and its date
-below : (c : tie.In-loop Inv-loop μ-loop) → c .before .loop .i + 1 < rowCount (length (bytes (c .before)))
-below c = omega (arith, c .before .loop .inv .0)
+abbrev last : tie.Start → ℕ
+last s = length (table s) - 1
 
-next-date : (c : tie.After-row-moment Inv-loop μ-loop) → let h = round c .before in c .row-moment .result ≡ rowMoment (rowAt (tableIn (bytes h)) (h .loop .i + 1))
-next-date c = c .row-moment .ensures ∙ ap rowMoment (c .before .row-at .ensures)
+two : (s : tie.Start) → 2 ≤ rowCount (length (s .args .s .now))
+two s = lent-two _ (s .pre)
 
-row-count-requires : tie.Need-row-count-requires Inv-loop μ-loop
-row-count-requires c κs = omega (arith, c .before .pre .0 .whole)
+first-date : (c : tie.After-row-moment) → c .row-moment .result ≡ rowMoment (rowAt (table (entry c)) 0)
+first-date c = c .row-moment .ensures ∙ ap rowMoment (c .before .row-at .ensures)
 
-sub-last : tie.Need-sub-last Inv-loop μ-loop
-sub-last c = omega (arith, two c, c .row-count .ensures)
+after-first : (c : tie.Else1) → rowMoment (rowAt (table (entry (c .before))) 0) < entry (c .before) .args .x
+after-first c = lt-of-le-of-lt (le-of-eq (sym (first-date (c .before)))) (c .if1 .left)
 
-loop-holds : tie.Need-loop-holds Inv-loop μ-loop
-loop-holds c = (omega (arith, two c), entry c .pre .1 .low)
+-- the last row's index and its date
+last-is : (c : tie.After-row-count) → let s = entry (past c .before) in c .row-count .result - 1 ≡ last s
+last-is c = let s = entry (past c .before) in omega (arith, c .row-count .ensures, table-count (s .args .s .now))
 
-add-row-at : tie.Need-add-row-at Inv-loop μ-loop
-add-row-at c = omega arith
+last-date : (c : tie.After-row-moment2) → let s = entry (past (counted c) .before) in c .row-moment2 .result ≡ rowMoment (rowAt (table s) (last s))
+last-date c =
+    let s = entry (past (counted c) .before) in
+    c .row-moment2 .ensures ∙ ap rowMoment (c .before .row-at2 .ensures ∙ ap (rowAt (table s)) (last-is (counted c)))
 
-row-at-requires : tie.Need-row-at-requires Inv-loop μ-loop
-row-at-requires c κs = (entry (counted (c .before)) .pre .0 .whole, below c)
+row-at-requires : tie.Need-row-at-requires
+row-at-requires c κs = (c .before .pre .whole, omega (arith, two (c .before)))
 
-row-moment-requires : tie.Need-row-moment-requires Inv-loop μ-loop
-row-moment-requires c κs = rw (c .row-at .ensures) (lent-row _ (entry (counted (c .before .before)) .pre .0) _ (below (c .before)))
+row-moment-requires : tie.Need-row-moment-requires
+row-moment-requires c κs = let s : tie.Start = c .before .before in rw (c .row-at .ensures) (lent-row _ (s .pre) 0 (omega (arith, two s)))
 
-returns : tie.Need-returns Inv-loop μ-loop
-returns c =
-    let r = round (c .before) in
-    let h = r .before in
-    record {
-      within = omega (arith, table-count (bytes h), below r);
-      low = h .loop .inv .1;
-      high = lt-of-lt-of-le (c .if1 .taken) (le-of-eq (next-date (c .before)));
-    }
+returns : tie.Need-returns
+returns c = let s = entry (c .before) in sym (lookup-first (table s) (s .args .x) (le-trans (c .if1 .taken) (le-of-eq (first-date (c .before)))))
 
-add-i : tie.Need-add-i Inv-loop μ-loop
-add-i c = omega arith
+row-count-requires : tie.Need-row-count-requires
+row-count-requires c κs = search needs
 
-loop-less : tie.Need-loop-less Inv-loop μ-loop
-loop-less c = omega (arith, below (round (c .before)))
+sub-last : tie.Need-sub-last
+sub-last c = omega (arith, two (entry (past c .before)), c .row-count .ensures)
 
-loop-again : tie.Need-loop-again Inv-loop μ-loop
-loop-again c =
-    let r = round (c .before) in
-    (omega (arith, counted (r .before) .row-count .ensures, r .loop-test .taken), le-trans (le-of-eq (sym (next-date (c .before)))) (c .if1 .left))
+row-at-requires-2 : tie.Need-row-at-requires-2
+row-at-requires-2 c κs = let s = entry (past c .before) in (s .pre .whole, omega (arith, two s, c .row-count .ensures))
 
-returns-2 : tie.Need-returns-2 Inv-loop μ-loop
+row-moment-requires-2 : tie.Need-row-moment-requires-2
+row-moment-requires-2 c κs =
+    let s = entry (past (c .before) .before) in
+    rw (c .row-at2 .ensures) (lent-row _ (s .pre) _ (omega (arith, two s, c .before .row-count .ensures)))
+
+returns-2 : tie.Need-returns-2
 returns-2 c =
-    let h : tie.At-loop Inv-loop μ-loop = c .before in
-    let rows : List Row = tableIn (bytes h) in
-    let last : length rows - 1 ≡ h .loop .i + 1 = omega (arith, table-count (bytes h), counted h .row-count .ensures, c .loop-test .left, h .loop .inv .0) in
-    record {
-      within = omega (arith, table-count (bytes h), h .loop .inv .0);
-      low = h .loop .inv .1;
-      high = subst (λ (k : ℕ). entry (counted h) .args .x < rowMoment (rowAt rows k)) last (entry (counted h) .pre .1 .high);
-    }
+    let f = past (counted (c .before)) in
+    let s = entry (f .before) in
+    ap (λ (i : ℕ). bracket i i 0) (last-is (counted (c .before)))
+    ∙ sym (lookup-last (table s) (s .args .x) (after-first f) (le-trans (le-of-eq (sym (last-date (c .before)))) (c .if2 .taken)))
+
+halve-requires : tie.Need-halve-requires
+halve-requires c κs =
+    let n = counted (c .before) in
+    let s = entry (past n .before) in
+    (s .pre, omega (arith, two s, n .row-count .ensures))
+
+returns-3 : tie.Need-returns-3
+returns-3 c =
+    let l = c .before in
+    let f = past (counted (l .before)) in
+    let s = entry (f .before) in
+    c .halve .ensures
+    ∙ ap (λ (i : ℕ). halving (table s) (s .args .x) (bracket 0 i 0)) (last-is (counted (l .before)))
+    ∙ sym (lookup-amid (table s) (s .args .x) (after-first f) (lt-of-lt-of-le (l .if2 .left) (le-of-eq (last-date (l .before)))))
 
 pub lookup-spec : {M : Type 1} → statement M
 lookup-spec =
     tie.close
     (tie.spec
-    Inv-loop
-    μ-loop
-    row-count-requires
-    sub-last
-    loop-holds
-    add-row-at
     row-at-requires
     row-moment-requires
     returns
-    add-i
-    loop-less
-    loop-again
-    returns-2)
+    row-count-requires
+    sub-last
+    row-at-requires-2
+    row-moment-requires-2
+    returns-2
+    halve-requires
+    returns-3)

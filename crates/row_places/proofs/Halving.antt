@@ -1,0 +1,120 @@
+-- The halving rule. A probe leaves a bracket that is narrower, so that the width is deep enough for the recursion and the rule is a probe and the rest.
+-- A bracket around x stays around it. One that is at most 2^p wide is at most 2^(p-1) wide after a probe, so that p probes make its ends neighbours.
+-- Assumes nothing.
+use mathlib.Core.Path.{_≡_, refl, sym, _∙_, ap, subst}
+use mathlib.Core.Bool.{Bool, true, false, not, cond}
+use mathlib.Core.List.{List}
+use Prim.Native.Nat.{ℕ, zero, suc, _+_, _*_, _-_, _/_, _^_, _≤_, _<_}
+use native.Mathlib.Nat as N
+use native.Mathlib.Omega.{arith}
+use lib.Dec.{T, leb, leb→le, nleb→lt}
+use borrow.Author.Tests.{le-leb, lt-leb}
+use Rattle.algebra.proofs.Tests.{by-test, cond-case}
+use Rattle.rows.specs.declared.Row.{Row}
+use Rattle.rows.specs.Table.{rowAt}
+use Rattle.rows.specs.Places.{rowMoment}
+use Rattle.row_places.specs.declared.Bracket.{Bracket}
+use Rattle.row_places.specs.Lookup.{bracket, neighbours, middle, probed, probing, halving}
+
+module _ (rows : List Row) (x : ℕ) where
+  -- ---- one probe, of a bracket whose ends are not neighbours
+
+  narrower : (b : Bracket) → b .lower + 1 < b .upper → suc (probed rows x b .upper - probed rows x b .lower) ≤ b .upper - b .lower
+  narrower b h =
+      cond-case (leb (rowMoment (rowAt rows (middle b))) x) (λ (q : Bracket). suc (q .upper - q .lower) ≤ b .upper - b .lower)
+      (λ t. omega arith)
+      (λ t. omega arith)
+
+  -- ---- the width is deep enough
+
+  -- nothing is left to do
+  pub probing-done : (w : ℕ) (b : Bracket) → b .upper ≤ b .lower + 1 → probing w rows x b ≡ b
+  unfolding probing
+  probing-done zero b h = refl
+  probing-done (suc w) b h = rw (le-leb (b .upper) (b .lower + 1) h) refl
+
+  probing-enough : (v w : ℕ) (b : Bracket) → b .upper - b .lower ≤ v → b .upper - b .lower ≤ w → probing v rows x b ≡ probing w rows x b
+  unfolding probing
+  probing-enough zero w b h k = sym (probing-done w b (omega arith))
+  probing-enough (suc v) zero b h k = probing-done (suc v) b (omega arith)
+  probing-enough (suc v) (suc w) b h k =
+      by-test (neighbours b) (λ t. let l = leb→le (b .upper) (b .lower + 1) t in probing-done (suc v) b l ∙ sym (probing-done (suc w) b l))
+      (λ t. let l = nleb→lt (b .upper) (b .lower + 1) t in
+      rw (lt-leb (b .upper) (b .lower + 1) l) (probing-enough v w (probed rows x b) (omega (arith, narrower b l)) (omega (arith, narrower b l))))
+
+  -- the rule at neighbours, and elsewhere
+  pub halving-done : (b : Bracket) → b .upper ≤ b .lower + 1 → halving rows x b ≡ b
+  unfolding halving
+  halving-done b h = probing-done (b .upper - b .lower) b h
+
+  pub halving-goes-on : (b : Bracket) → b .lower + 1 < b .upper → halving rows x b ≡ halving rows x (probed rows x b)
+  unfolding halving probing
+  halving-goes-on b h = go (b .upper - b .lower) refl
+    where
+      go : (w : ℕ) → w ≡ b .upper - b .lower → probing w rows x b ≡ halving rows x (probed rows x b)
+      go zero e = absurd (omega arith)
+      go (suc w) e = rw (lt-leb (b .upper) (b .lower + 1) h) (probing-enough w _ (probed rows x b) (omega (arith, narrower b h)) (N.le-refl _))
+
+  -- PROMISE. The rule, of any bracket: neighbours stay as they are; else a probe, and the rule again.
+  pub halving-rule : (b : Bracket) → halving rows x b ≡ cond (neighbours b) b (halving rows x (probed rows x b))
+  halving-rule b = by-test (neighbours b)
+      (λ t. let l = leb→le (b .upper) (b .lower + 1) t in rw (le-leb (b .upper) (b .lower + 1) l) (halving-done b l))
+      (λ t. let l = nleb→lt (b .upper) (b .lower + 1) t in rw (lt-leb (b .upper) (b .lower + 1) l) (halving-goes-on b l))
+
+  -- ---- what it finds
+
+  -- what each probe keeps holds in the end, of two neighbours or one row
+  probing-keeps : (P : Bracket → Type 0) → ((b : Bracket) → b .lower + 1 < b .upper → P b → P (probed rows x b)) → (w : ℕ) (b : Bracket) → b .upper - b .lower ≤ w → P b
+      → P (probing w rows x b) × (probing w rows x b .upper ≤ probing w rows x b .lower + 1)
+  unfolding probing
+  probing-keeps P step zero b h p = (p, omega arith)
+  probing-keeps P step (suc w) b h p =
+      by-test (neighbours b) (λ t. let l = leb→le (b .upper) (b .lower + 1) t in rw (le-leb (b .upper) (b .lower + 1) l) (p, l))
+      (λ t. let l = nleb→lt (b .upper) (b .lower + 1) t in
+      rw (lt-leb (b .upper) (b .lower + 1) l) (probing-keeps P step w (probed rows x b) (omega (arith, narrower b l)) (step b l p)))
+
+  -- ends on both sides of x, of a table of n rows
+  pub record Spans (n : ℕ) (b : Bracket) : Type 0 where
+    pub apart : b .lower < b .upper
+    pub within : b .upper < n
+    pub low : rowMoment (rowAt rows (b .lower)) ≤ x
+    pub high : x < rowMoment (rowAt rows (b .upper))
+
+  probed-spans : (n : ℕ) (b : Bracket) → b .lower + 1 < b .upper → Spans n b → Spans n (probed rows x b)
+  probed-spans n b h s =
+      cond-case (leb (rowMoment (rowAt rows (middle b))) x) (Spans n)
+      (λ t. record { apart = omega arith; within = s .within; low = leb→le (rowMoment (rowAt rows (middle b))) x t; high = s .high })
+      (λ t. record { apart = omega arith; within = omega (arith, s .within); low = s .low; high = nleb→lt (rowMoment (rowAt rows (middle b))) x t })
+
+  -- neighbours on both sides of x
+  pub halving-spans : (n : ℕ) (b : Bracket) → Spans n b → Spans n (halving rows x b) × (halving rows x b .upper ≤ halving rows x b .lower + 1)
+  unfolding halving
+  halving-spans n b s = probing-keeps (Spans n) (probed-spans n) (b .upper - b .lower) b (N.le-refl _) s
+
+  -- ---- how many probes it takes
+
+  half : (b : Bracket) (k : ℕ) → b .upper - b .lower ≤ k * 2 → probed rows x b .upper - probed rows x b .lower ≤ k
+  half b k h = cond-case (leb (rowMoment (rowAt rows (middle b))) x) (λ (q : Bracket). q .upper - q .lower ≤ k) (λ t. omega arith) (λ t. omega arith)
+
+  -- where the middle row is dated at or before x, and where it is later
+  pub probed-up : (b : Bracket) → rowMoment (rowAt rows (middle b)) ≤ x → probed rows x b ≡ bracket (middle b) (b .upper) (b .probes + 1)
+  probed-up b h = rw (le-leb (rowMoment (rowAt rows (middle b))) x h) refl
+
+  pub probed-down : (b : Bracket) → x < rowMoment (rowAt rows (middle b)) → probed rows x b ≡ bracket (b .lower) (middle b) (b .probes + 1)
+  probed-down b h = rw (lt-leb (rowMoment (rowAt rows (middle b))) x h) refl
+
+  one-more : (b : Bracket) → probed rows x b .probes ≡ b .probes + 1
+  one-more b = cond-case (leb (rowMoment (rowAt rows (middle b))) x) (λ (q : Bracket). q .probes ≡ b .probes + 1) (λ t. refl) (λ t. refl)
+
+  probing-most : (p w : ℕ) (b : Bracket) → b .upper - b .lower ≤ 2 ^ p → probing w rows x b .probes ≤ b .probes + p
+  unfolding probing
+  probing-most zero w b h = rw (probing-done w b (omega arith)) (omega arith)
+  probing-most (suc p) zero b h = omega arith
+  probing-most (suc p) (suc w) b h =
+      cond-case (neighbours b) (λ (q : Bracket). q .probes ≤ b .probes + suc p) (λ t. omega arith)
+      (λ t. omega (arith, probing-most p w (probed rows x b) (half b (2 ^ p) (N.le-trans h (N.le-of-eq (N.pow-suc 2 p)))), one-more b))
+
+  -- PROMISE. From a bracket that is at most 2^p wide it takes at most p.
+  pub halving-most : (p : ℕ) (b : Bracket) → b .upper - b .lower ≤ 2 ^ p → halving rows x b .probes ≤ b .probes + p
+  unfolding halving
+  halving-most p b h = probing-most p (b .upper - b .lower) b h

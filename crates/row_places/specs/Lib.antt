@@ -1,0 +1,2 @@
+-- The lookup of a moment among rows, and how many of them it probes.
+pub mod Lookup
