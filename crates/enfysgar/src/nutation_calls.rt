@@ -1,6 +1,7 @@
 // Service (f): free-core-nutation offsets, in nanoarcseconds.
 use nutation::NutationAnswer;
 ghost use mathlib.Core.Path.{_≡_};
+ghost use Rattle.row_places.specs.Lookup.{probesOf};
 ghost use Rattle.nutation.specs.Ours.{nutationOf, xOr, yOr, uncertaintyOr, xOf, yOf, uncertaintyOf, nutationRefusalOf};
 
 // Both offsets and their uncertainty, or nothing written. Returns the refusal number.
@@ -72,4 +73,12 @@ pub extern "C" fn enfys_nutation_refusal(day: i64, micros: u64) -> u32
         NutationAnswer::Nutation(_) => 0,
         NutationAnswer::NoNutation(n) => n,
     }
+}
+
+// The rows that the lookup probes at an instant, or 0 beside a refusal.
+#[no_mangle]
+pub extern "C" fn enfys_nutation_probes(day: i64, micros: u64) -> u64
+    ensures { λ r. ⌜ r ≡ probesOf day micros ⌝ }
+{
+    row_places::probes_of(day, micros)
 }

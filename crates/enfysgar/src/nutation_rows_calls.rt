@@ -1,6 +1,7 @@
 // Service (f) with rows from the caller: free-core-nutation offsets, in nanoarcseconds.
 use nutation::NutationAnswer;
 ghost use mathlib.Core.Path.{_≡_};
+ghost use Rattle.row_places.specs.Lookup.{probesRowsOf};
 ghost use Rattle.nutation.specs.Ours.{nutationRowsOf, xOr, yOr, uncertaintyOr, xOf, yOf, uncertaintyOf, nutationRefusalOf};
 
 // Both offsets of the rows and their uncertainty, or nothing written. Returns the refusal number.
@@ -73,4 +74,12 @@ pub extern "C" fn enfys_nutation_rows_refusal(rows: &[u8], day: i64, micros: u64
         NutationAnswer::Nutation(_) => 0,
         NutationAnswer::NoNutation(n) => n,
     }
+}
+
+// The rows that the lookup probes among these at an instant, or 0 beside a refusal.
+#[no_mangle]
+pub extern "C" fn enfys_nutation_rows_probes(rows: &[u8], day: i64, micros: u64) -> u64
+    ensures { λ r. ⌜ r ≡ probesRowsOf (now (rows .entry)) day micros ⌝ }
+{
+    row_places::probes_rows_of(rows, day, micros)
 }

@@ -31,6 +31,7 @@ use Rattle.tide.specs.declared.TideAnswer.the-variants as tideCase
 use Rattle.tide.proofs.Promises.{in-full}
 use Rattle.zonal.specs.Ours as zonal
 use Rattle.zonal.specs.declared.ZonalAnswer.the-variants as zonalCase
+use Rattle.row_places.proofs.Probes.{probes-refused, rows-probes-refused}
 use Rattle.nutation.specs.Ours as nutation
 use Rattle.nutation.specs.declared.NutationAnswer.the-variants as nutationCase
 use Rattle.record.specs.Records.{writeCases, writeRefusal, readCases, readOf, recordDayOr, recordMicrosOr, recordUt1Or, recordLodOr, recordRateOr, readRefusalOf}
@@ -153,7 +154,9 @@ any-input-is-answered = record {
     number nutationCase.NoNutation nutation.nutationRefusalOf (instantCases d m) _ (offsets d m) tt nutation.yOr (pos 0) (λ _ _. refl) (λ _. refl),
     number nutationCase.NoNutation nutation.nutationRefusalOf (instantCases d m) _ (offsets d m) tt nutation.uncertaintyOr 0 (λ _ _. refl) (λ _. refl),
   );
+  probes-zeroed = λ d m h. probes-refused d m (λ z. h (offsets d m ∙ z));
   rows-offsets = rows-offsets;
+  rows-probes-zeroed = λ s d m h. rows-probes-refused s d m (λ z. h (handed-rows s d m ∙ z));
   rows-offsets-numbers = λ s d m. (
     number nutationCase.NoNutation nutation.nutationRefusalOf (bytesCases s ++ instantCases d m) _ (handed-rows s d m) tt nutation.xOr (pos 0) (λ _ _. refl) (λ _. refl),
     number nutationCase.NoNutation nutation.nutationRefusalOf (bytesCases s ++ instantCases d m) _ (handed-rows s d m) tt nutation.yOr (pos 0) (λ _ _. refl) (λ _. refl),

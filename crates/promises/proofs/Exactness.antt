@@ -1,5 +1,6 @@
 -- Demand 2 holds. Each field is proved from the theorem of its service that docs/PROMISES.md names. Assumes nothing.
-use mathlib.Core.Path.{_≡_, refl}
+use mathlib.Core.Path.{_≡_, refl, sym, _∙_}
+use mathlib.Core.Logic.{⊎-elim}
 use mathlib.Core.List.{List}
 use Prim.Native.Nat.{_+_, _<_}
 use lib.Dec.{T}
@@ -36,6 +37,9 @@ use Rattle.row_bytes.specs.Form.{tableIn}
 use Rattle.row_bytes.proofs.Forms.{table-held}
 use Rattle.row_bytes.proofs.Round.{table-back, table-accepted}
 use Rattle.row_bytes.proofs.Again.{table-again}
+use Rattle.row_places.proofs.Halving.{halving-neighbours, halving-lower, halving-upper}
+use Rattle.row_places.proofs.Probes.{lookup-amid, lookup-place, probes-before, probes-after, probes-answered, probes-looked-up, built-in-looked-up, most-five, rows-most, most-eight}
+use Rattle.row_places.proofs.Examples.{some-probes, some-eight}
 use Rattle.nutation.proofs.Promises.{rows-answered, built-in-alike}
 use Rattle.record.proofs.Round.{read-written}
 use Rattle.record.proofs.Again.{written-again}
@@ -116,6 +120,19 @@ exactness = record {
   table-reads-back = λ rows k. (table-accepted rows (rules-accepted rows k), table-back rows (rules-accepted rows k));
   rows-of-bytes = rows-answered;
   built-in-rows = built-in-alike;
+  halving-neighbours = halving-neighbours;
+  halving-lower = halving-lower;
+  halving-upper = halving-upper;
+  lookup-halves = lookup-amid;
+  no-probe-at-ends = λ rows x. ⊎-elim (probes-before rows x) (probes-after rows x);
+  rows-found = λ rows k x. sym (lookup-place rows x (rules-accepted rows k));
+  probes-built-in = built-in-looked-up;
+  probes-of-bytes = λ s e d m a. probes-answered s e d m ∙ probes-looked-up (tableIn s) d m a;
+  most-five = most-five;
+  most-of-rows = rows-most;
+  most-eight = most-eight;
+  some-probes = some-probes;
+  some-eight = some-eight;
   record-reads-back = read-written;
   record-written-again = written-again;
   record-reads-front = read-front;

@@ -26,6 +26,7 @@ use Rattle.tide.specs.Binary64.{zero64}
 use Rattle.tide.specs.Tidal as tide
 use Rattle.tide.specs.declared.Doodson.{Doodson}
 use Rattle.zonal.specs.Ours as zonal
+use Rattle.row_places.specs.Lookup.{probesOf, probesRowsOf}
 use Rattle.nutation.specs.Ours as nutation
 use Rattle.bigendian.specs.Numbers.{numberAt, wordSum, signedOf}
 use Rattle.rows.specs.Table.{someBelow}
@@ -235,6 +236,8 @@ pub record AnyInputIsAnswered : Type 0 where
       → Number nutation.nutationRefusalOf nutation.xOf nutation.xOr (pos 0) (nutation.nutationOf d m)
       × Number nutation.nutationRefusalOf nutation.yOf nutation.yOr (pos 0) (nutation.nutationOf d m)
       × Number nutation.nutationRefusalOf nutation.uncertaintyOf nutation.uncertaintyOr 0 (nutation.nutationOf d m)
+  -- the probes have no refusal of their own: beside one of their edition they are 0
+  pub probes-zeroed : (d : ℤ) (m : ℕ) → (nutation.nutationRefusalOf (nutation.nutationOf d m) ≡ 0 → ⊥) → probesOf d m ≡ 0
   -- (f) with rows from the caller
   pub rows-offsets : (s : List ℕ) (d : ℤ) (m : ℕ) → nutation.nutationRefusalOf (nutation.nutationRowsOf s d m)
       ≡ firstRefusal (refusal21 s ∷ refusal22 s ∷ refusal23 s ∷ refusal24 s ∷ refusal8 d ∷ refusal9 m ∷ [])
@@ -242,6 +245,7 @@ pub record AnyInputIsAnswered : Type 0 where
       → Number nutation.nutationRefusalOf nutation.xOf nutation.xOr (pos 0) (nutation.nutationRowsOf s d m)
       × Number nutation.nutationRefusalOf nutation.yOf nutation.yOr (pos 0) (nutation.nutationRowsOf s d m)
       × Number nutation.nutationRefusalOf nutation.uncertaintyOf nutation.uncertaintyOr 0 (nutation.nutationRowsOf s d m)
+  pub rows-probes-zeroed : (s : List ℕ) (d : ℤ) (m : ℕ) → (nutation.nutationRefusalOf (nutation.nutationRowsOf s d m) ≡ 0 → ⊥) → probesRowsOf s d m ≡ 0
   -- (g) one record
   pub record-write : (d : ℤ) (m n : ℕ) → writeRefusal d m n ≡ firstRefusal (refusal8 d ∷ refusal9 m ∷ refusal12 n 30 ∷ [])
   pub record-write-keeps : (d : ℤ) (m : ℕ) (ut1 lod rate : ℤ) (old : List ℕ) → (writeRefusal d m (length old) ≡ 0 → ⊥) → written d m ut1 lod rate old ≡ old

@@ -1,6 +1,6 @@
 -- Demand 2: exactness. Dates each way; frequency and phase; records read back; clock words joined exactly when they are of one day; rows from the caller
--- read as they were written; UTC readings and instants each way.
-use Prim.Native.Nat.{ℕ, suc, _+_, _*_, _≤_, _<_}
+-- read as they were written; the lookup of rows, and the number of its probes; UTC readings and instants each way.
+use Prim.Native.Nat.{ℕ, suc, _+_, _*_, _-_, _/_, _^_, _≤_, _<_}
 use mathlib.Core.Path.{_≡_}
 use mathlib.Core.Bool.{false}
 use mathlib.Core.List.{List, _++_}
@@ -41,13 +41,15 @@ use Rattle.bigendian.specs.Numbers.{Bytes}
 use Rattle.rows.specs.declared.Row.{Row}
 use Rattle.rows.specs.Table.{rowAt}
 use Rattle.rows.specs.BuiltIn.{builtIn}
+use Rattle.rows.specs.Places.{rowMoment, place}
 use Rattle.row_bytes.specs.Form.{tableBytes, tableIn, AcceptedBytes}
+use Rattle.row_places.specs.Lookup.{bracket, halving, lookupOf, placeIn, probesOf, probesRowsOf}
 use Rattle.nutation.specs.Ours.{nutationWith, nutationOf, nutationRowsOf}
 use Rattle.record.specs.Format.{recordLength}
 use Rattle.record.specs.Records.{recordWith, writeRefusal, written, readOf}
 use Rattle.record.specs.declared.Record.{Record}
 use Rattle.record.specs.declared.ReadAnswer.the-variants.{IsRecord}
-use Rattle.instants.specs.Moments.{sinceJ2000}
+use Rattle.instants.specs.Moments.{sinceJ2000, momentOf}
 use Rattle.run.specs.Run.{runRefusal, recordAt, runWritten}
 
 -- a table of rows in the figures of its rules
@@ -101,6 +103,31 @@ pub record Exactness : Type 0 where
   -- written as bytes, are accepted and answered by what the built-in edition gives
   pub rows-of-bytes : (s : List ℕ) → AcceptedBytes s → (d : ℤ) (m : ℕ) → nutationRowsOf s d m ≡ nutationWith (tableIn s) d m
   pub built-in-rows : AcceptedBytes (tableBytes builtIn) × ((d : ℤ) (m : ℕ) → nutationRowsOf (tableBytes builtIn) d m ≡ nutationOf d m)
+  -- the lookup of a moment x halves: neighbours are what it gives; else the middle row, rounded down, is probed and becomes the lower end where it is dated
+  -- at or before x, the upper where it is later
+  pub halving-neighbours : (rows : List Row) (x lower upper probes : ℕ) → upper ≤ lower + 1 → halving rows x (bracket lower upper probes) ≡ bracket lower upper probes
+  pub halving-lower : (rows : List Row) (x lower upper probes : ℕ) → lower + 1 < upper → rowMoment (rowAt rows ((lower + upper) / 2)) ≤ x
+      → halving rows x (bracket lower upper probes) ≡ halving rows x (bracket ((lower + upper) / 2) upper (probes + 1))
+  pub halving-upper : (rows : List Row) (x lower upper probes : ℕ) → lower + 1 < upper → x < rowMoment (rowAt rows ((lower + upper) / 2))
+      → halving rows x (bracket lower upper probes) ≡ halving rows x (bracket lower ((lower + upper) / 2) (probes + 1))
+  -- between the dates of the first and the last row it starts from these two; at or outside the ends nothing is probed
+  pub lookup-halves : (rows : List Row) (x : ℕ) → rowMoment (rowAt rows 0) < x → x < rowMoment (rowAt rows (length rows - 1))
+      → lookupOf rows x ≡ halving rows x (bracket 0 (length rows - 1) 0)
+  pub no-probe-at-ends : (rows : List Row) (x : ℕ) → (x ≤ rowMoment (rowAt rows 0)) ⊎ (rowMoment (rowAt rows (length rows - 1)) ≤ x) → lookupOf rows x .probes ≡ 0
+  -- in a table that keeps the rules the rows that it finds are those of the place, by which the offsets are defined
+  pub rows-found : (rows : List Row) → KeepsRules rows → (x : ℕ) → placeIn rows (lookupOf rows x) ≡ place rows x
+  -- the probes of both editions at an accepted instant are the lookup's, in the built-in rows and in those of accepted bytes
+  pub probes-built-in : (d : ℤ) (m : ℕ) → IsAccepted d m → probesOf d m ≡ lookupOf builtIn (momentOf d m) .probes
+  pub probes-of-bytes : (s : List ℕ) → AcceptedBytes s → (d : ℤ) (m : ℕ) → IsAccepted d m → probesRowsOf s d m ≡ lookupOf (tableIn s) (momentOf d m) .probes
+  -- they are at most five, and with n rows in bytes at most p for every p with n - 1 at most 2^p, and never more than eight
+  pub most-five : (d : ℤ) (m : ℕ) → probesOf d m ≤ 5
+  pub most-of-rows : (s : List ℕ) (p : ℕ) → (length s - 3) / 16 - 1 ≤ 2 ^ p → (d : ℤ) (m : ℕ) → probesRowsOf s d m ≤ p
+  pub most-eight : (s : List ℕ) (d : ℤ) (m : ℕ) → probesRowsOf s d m ≤ 8
+  -- there are such: at the first row's date and a microsecond later, a microsecond before the eighth row's date and at it, and so at the last row's date;
+  -- and eight among some two hundred rows
+  pub some-probes : (probesOf (pos 45700) 0 ≡ 0) × (probesOf (pos 45700) 1 ≡ 4) × (probesOf (pos 48256) 86_399_999_999 ≡ 5) × (probesOf (pos 48257) 0 ≡ 4)
+      × (probesOf (pos 56292) 86_399_999_999 ≡ 5) × (probesOf (pos 56293) 0 ≡ 0)
+  pub some-eight : (s : List ℕ) × (d : ℤ) × (m : ℕ) × AcceptedBytes s × ((length s - 3) / 16 ≡ 200) × (probesRowsOf s d m ≡ 8)
   -- (g) a record written at an accepted instant, with any three numbers of 32 bits, into thirty bytes or more reads back as it was
   pub record-reads-back : (d : ℤ) (m : ℕ) (ut1 lod rate : ℤ) (old : List ℕ) → IsAccepted d m → recordLength ≤ length old → SFits w32 ut1 → SFits w32 lod → SFits w32 rate
       → readOf (written d m ut1 lod rate old) ≡ IsRecord (recordWith d m ut1 lod rate)

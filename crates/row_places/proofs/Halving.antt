@@ -25,6 +25,13 @@ module _ (rows : List Row) (x : ℕ) where
       (λ t. omega arith)
       (λ t. omega arith)
 
+  -- where the middle row is dated at or before x, and where it is later
+  pub probed-up : (b : Bracket) → rowMoment (rowAt rows (middle b)) ≤ x → probed rows x b ≡ bracket (middle b) (b .upper) (b .probes + 1)
+  probed-up b h = rw (le-leb (rowMoment (rowAt rows (middle b))) x h) refl
+
+  pub probed-down : (b : Bracket) → x < rowMoment (rowAt rows (middle b)) → probed rows x b ≡ bracket (b .lower) (middle b) (b .probes + 1)
+  probed-down b h = rw (lt-leb (rowMoment (rowAt rows (middle b))) x h) refl
+
   -- ---- the width is deep enough
 
   -- nothing is left to do
@@ -55,11 +62,16 @@ module _ (rows : List Row) (x : ℕ) where
       go zero e = absurd (omega arith)
       go (suc w) e = rw (lt-leb (b .upper) (b .lower + 1) h) (probing-enough w _ (probed rows x b) (omega (arith, narrower b h)) (N.le-refl _))
 
-  -- PROMISE. The rule, of any bracket: neighbours stay as they are; else a probe, and the rule again.
-  pub halving-rule : (b : Bracket) → halving rows x b ≡ cond (neighbours b) b (halving rows x (probed rows x b))
-  halving-rule b = by-test (neighbours b)
-      (λ t. let l = leb→le (b .upper) (b .lower + 1) t in rw (le-leb (b .upper) (b .lower + 1) l) (halving-done b l))
-      (λ t. let l = nleb→lt (b .upper) (b .lower + 1) t in rw (lt-leb (b .upper) (b .lower + 1) l) (halving-goes-on b l))
+  -- PROMISE. The rule written out, of the rows l and u after p probes: neighbours are what it gives; else the middle row takes the place of l where it is
+  -- dated at or before x, and that of u where it is later, and the rule goes on after one more probe.
+  pub halving-neighbours : (l u p : ℕ) → u ≤ l + 1 → halving rows x (bracket l u p) ≡ bracket l u p
+  halving-neighbours l u p h = halving-done (bracket l u p) h
+
+  pub halving-lower : (l u p : ℕ) → l + 1 < u → rowMoment (rowAt rows ((l + u) / 2)) ≤ x → halving rows x (bracket l u p) ≡ halving rows x (bracket ((l + u) / 2) u (p + 1))
+  halving-lower l u p h k = halving-goes-on (bracket l u p) h ∙ ap (halving rows x) (probed-up (bracket l u p) k)
+
+  pub halving-upper : (l u p : ℕ) → l + 1 < u → x < rowMoment (rowAt rows ((l + u) / 2)) → halving rows x (bracket l u p) ≡ halving rows x (bracket l ((l + u) / 2) (p + 1))
+  halving-upper l u p h k = halving-goes-on (bracket l u p) h ∙ ap (halving rows x) (probed-down (bracket l u p) k)
 
   -- ---- what it finds
 
@@ -95,13 +107,6 @@ module _ (rows : List Row) (x : ℕ) where
 
   half : (b : Bracket) (k : ℕ) → b .upper - b .lower ≤ k * 2 → probed rows x b .upper - probed rows x b .lower ≤ k
   half b k h = cond-case (leb (rowMoment (rowAt rows (middle b))) x) (λ (q : Bracket). q .upper - q .lower ≤ k) (λ t. omega arith) (λ t. omega arith)
-
-  -- where the middle row is dated at or before x, and where it is later
-  pub probed-up : (b : Bracket) → rowMoment (rowAt rows (middle b)) ≤ x → probed rows x b ≡ bracket (middle b) (b .upper) (b .probes + 1)
-  probed-up b h = rw (le-leb (rowMoment (rowAt rows (middle b))) x h) refl
-
-  pub probed-down : (b : Bracket) → x < rowMoment (rowAt rows (middle b)) → probed rows x b ≡ bracket (b .lower) (middle b) (b .probes + 1)
-  probed-down b h = rw (lt-leb (rowMoment (rowAt rows (middle b))) x h) refl
 
   one-more : (b : Bracket) → probed rows x b .probes ≡ b .probes + 1
   one-more b = cond-case (leb (rowMoment (rowAt rows (middle b))) x) (λ (q : Bracket). q .probes ≡ b .probes + 1) (λ t. refl) (λ t. refl)

@@ -1,22 +1,28 @@
 -- The lookup by its three cases: what it finds is the place of x, and it probes as many rows as halving does. Assumes nothing.
 use mathlib.Core.Path.{_≡_, refl, sym, _∙_, ap, subst}
-use mathlib.Core.List.{List}
+use mathlib.Core.List.{List, _++_}
 use Prim.Native.Nat.{ℕ, suc, _+_, _-_, _^_, _≤_, _<_, zero-le}
 use native.Mathlib.Nat as N
 use native.Mathlib.Omega.{arith}
-use lib.Dec.{leb, leb→le, nleb→lt}
+use lib.Dec.{leb, leb→le, nleb→lt, lit≤}
 use lib.IntN.{ℤ}
 use lib.ListN.{length}
 use borrow.Author.Tests.{le-leb, lt-leb, eq-eqb, ne-eqb}
-use Rattle.instants.proofs.FirstRefusal.{none-answered}
+use Rattle.instants.proofs.FirstRefusal.{in-each, none-answered, refused-first}
+use Rattle.instants.proofs.Accepted.{answered-too}
+use Rattle.instants.specs.Refusals.{firstRefusal}
+use Rattle.instants.specs.Instants.{instantCases, IsAccepted}
+use Rattle.instants.specs.Moments.{momentOf}
 use Rattle.algebra.proofs.Tests.{cond-case}
 use Rattle.rows.specs.declared.Row.{Row}
 use Rattle.rows.specs.declared.Place.the-variants.{End, Between}
 use Rattle.rows.specs.Table.{rowAt, AcceptedTable}
+use Rattle.rows.specs.BuiltIn.{builtIn}
 use Rattle.rows.specs.Places.{rowMoment, place}
 use Rattle.rows.proofs.Places.{Around, place-first, place-last, place-between}
-use Rattle.row_bytes.specs.Form.{tableIn, bytesCases, AcceptedBytes}
-use Rattle.row_bytes.proofs.Forms.{accepted-none}
+use Rattle.row_bytes.specs.Form.{rowCount, tableIn, bytesCases, AcceptedBytes}
+use Rattle.row_bytes.proofs.Reading.{table-count}
+use Rattle.row_bytes.proofs.Forms.{accepted-none, table-held}
 use Rattle.row_places.specs.declared.Bracket.{Bracket}
 use Rattle.row_places.specs.Lookup.{bracket, halving, lookupOf, placeIn, probesWith, probesOf, probesRowsOf}
 use Rattle.row_places.proofs.Halving.{Spans, halving-spans, halving-most}
@@ -95,3 +101,41 @@ module _ (rows : List Row) (x : ℕ) where
 pub probes-answered : (s : List ℕ) → AcceptedBytes s → (d : ℤ) (m : ℕ) → probesRowsOf s d m ≡ probesWith (tableIn s) d m
 unfolding probesRowsOf
 probes-answered s e d m = none-answered (λ n. 0) (bytesCases s) _ (accepted-none s e)
+
+-- of an accepted instant those of the lookup at its moment
+pub probes-looked-up : (rows : List Row) (d : ℤ) (m : ℕ) → IsAccepted d m → probesWith rows d m ≡ lookupOf rows (momentOf d m) .probes
+probes-looked-up rows d m a = sym (answered-too (λ n. 0) _ d m a)
+
+pub built-in-looked-up : (d : ℤ) (m : ℕ) → IsAccepted d m → probesOf d m ≡ lookupOf builtIn (momentOf d m) .probes
+unfolding probesOf
+built-in-looked-up = probes-looked-up builtIn
+
+-- PROMISE. Beside a refusal of the offsets' edition they are 0.
+pub probes-refused : (d : ℤ) (m : ℕ) → (firstRefusal (instantCases d m) ≡ 0 → ⊥) → probesOf d m ≡ 0
+unfolding probesOf
+probes-refused d m = refused-first (λ n. 0) (instantCases d m) _
+
+pub rows-probes-refused : (s : List ℕ) (d : ℤ) (m : ℕ) → (firstRefusal (bytesCases s ++ instantCases d m) ≡ 0 → ⊥) → probesRowsOf s d m ≡ 0
+unfolding probesRowsOf
+rows-probes-refused s d m = refused-first (λ n. 0) (bytesCases s ++ instantCases d m) _
+
+-- with the rows of a table never more than the lookup's most
+with-most : (rows : List Row) (p : ℕ) → length rows - 1 ≤ 2 ^ p → (d : ℤ) (m : ℕ) → probesWith rows d m ≤ p
+with-most rows p h d m = in-each (λ n. 0) (λ (k : ℕ). k ≤ p) (instantCases d m) _ (λ n. zero-le) (λ _. probes-most rows (momentOf d m) p h)
+
+-- PROMISE. Of the built-in rows at most five are probed, at any instant.
+pub most-five : (d : ℤ) (m : ℕ) → probesOf d m ≤ 5
+unfolding probesOf builtIn
+most-five d m = with-most builtIn 5 (lit≤ tt) d m
+
+-- PROMISE. Of n rows in bytes at most p, where n - 1 is at most 2^p; and never more than eight.
+pub rows-most : (s : List ℕ) (p : ℕ) → rowCount (length s) - 1 ≤ 2 ^ p → (d : ℤ) (m : ℕ) → probesRowsOf s d m ≤ p
+unfolding probesRowsOf
+rows-most s p h d m =
+    in-each (λ n. 0) (λ (k : ℕ). k ≤ p) (bytesCases s) _ (λ n. zero-le) (λ _. with-most (tableIn s) p (omega (arith, table-count s)) d m)
+
+pub most-eight : (s : List ℕ) (d : ℤ) (m : ℕ) → probesRowsOf s d m ≤ 8
+unfolding probesRowsOf
+most-eight s d m =
+    in-each (λ n. 0) (λ (k : ℕ). k ≤ 8) (bytesCases s) _ (λ n. zero-le) (λ none.
+    with-most (tableIn s) 8 (omega (arith, table-held s (none-answered (λ n. n) (bytesCases s) 0 none) .most)) d m)
