@@ -1,36 +1,50 @@
 -- The halving rule. A probe leaves a bracket that is narrower, so that the width is deep enough for the recursion and the rule is a probe and the rest.
 -- A bracket around x stays around it. One that is at most 2^p wide is at most 2^(p-1) wide after a probe, so that p probes make its ends neighbours.
 -- Assumes nothing.
-use mathlib.Core.Path.{_≡_, refl, sym, _∙_, ap, subst}
-use mathlib.Core.Bool.{Bool, true, false, not, cond}
+use mathlib.Core.Path.{_≡_, refl, sym, _∙_, ap}
+use mathlib.Core.Bool.{true, false, not}
 use mathlib.Core.List.{List}
 use Prim.Native.Nat.{ℕ, zero, suc, _+_, _*_, _-_, _/_, _^_, _≤_, _<_}
 use native.Mathlib.Nat as N
 use native.Mathlib.Omega.{arith}
-use lib.Dec.{T, leb, leb→le, nleb→lt}
+use lib.Dec.{T, leb→le, nleb→lt}
 use borrow.Author.Tests.{le-leb, lt-leb}
 use Rattle.algebra.proofs.Tests.{by-test, cond-case}
 use Rattle.rows.specs.declared.Row.{Row}
 use Rattle.rows.specs.Table.{rowAt}
 use Rattle.rows.specs.Places.{rowMoment}
 use Rattle.row_places.specs.declared.Bracket.{Bracket}
-use Rattle.row_places.specs.Lookup.{bracket, neighbours, middle, probed, probing, halving}
+use Rattle.row_places.specs.Lookup.{bracket, neighbours, middle, reached, probed, probing, halving}
 
 module _ (rows : List Row) (x : ℕ) where
+  -- ---- the date of a row
+
+  at-or-before : (i : ℕ) → T (reached rows x i) → rowMoment (rowAt rows i) ≤ x
+  at-or-before i t = omega (arith, leb→le _ x t)
+
+  later : (i : ℕ) → T (not (reached rows x i)) → x < rowMoment (rowAt rows i)
+  later i t = omega (arith, nleb→lt _ x t)
+
+  reached-yes : (i : ℕ) → rowMoment (rowAt rows i) ≤ x → reached rows x i ≡ true
+  reached-yes i h = le-leb _ x (omega arith)
+
+  reached-no : (i : ℕ) → x < rowMoment (rowAt rows i) → reached rows x i ≡ false
+  reached-no i h = lt-leb _ x (omega arith)
+
   -- ---- one probe, of a bracket whose ends are not neighbours
 
   narrower : (b : Bracket) → b .lower + 1 < b .upper → suc (probed rows x b .upper - probed rows x b .lower) ≤ b .upper - b .lower
   narrower b h =
-      cond-case (leb (rowMoment (rowAt rows (middle b))) x) (λ (q : Bracket). suc (q .upper - q .lower) ≤ b .upper - b .lower)
+      cond-case (reached rows x (middle b)) (λ (q : Bracket). suc (q .upper - q .lower) ≤ b .upper - b .lower)
       (λ t. omega arith)
       (λ t. omega arith)
 
   -- where the middle row is dated at or before x, and where it is later
   pub probed-up : (b : Bracket) → rowMoment (rowAt rows (middle b)) ≤ x → probed rows x b ≡ bracket (middle b) (b .upper) (b .probes + 1)
-  probed-up b h = rw (le-leb (rowMoment (rowAt rows (middle b))) x h) refl
+  probed-up b h = rw (reached-yes (middle b) h) refl
 
   pub probed-down : (b : Bracket) → x < rowMoment (rowAt rows (middle b)) → probed rows x b ≡ bracket (b .lower) (middle b) (b .probes + 1)
-  probed-down b h = rw (lt-leb (rowMoment (rowAt rows (middle b))) x h) refl
+  probed-down b h = rw (reached-no (middle b) h) refl
 
   -- ---- the width is deep enough
 
@@ -94,9 +108,9 @@ module _ (rows : List Row) (x : ℕ) where
 
   probed-spans : (n : ℕ) (b : Bracket) → b .lower + 1 < b .upper → Spans n b → Spans n (probed rows x b)
   probed-spans n b h s =
-      cond-case (leb (rowMoment (rowAt rows (middle b))) x) (Spans n)
-      (λ t. record { apart = omega arith; within = s .within; low = leb→le (rowMoment (rowAt rows (middle b))) x t; high = s .high })
-      (λ t. record { apart = omega arith; within = omega (arith, s .within); low = s .low; high = nleb→lt (rowMoment (rowAt rows (middle b))) x t })
+      cond-case (reached rows x (middle b)) (Spans n)
+      (λ t. record { apart = omega arith; within = s .within; low = at-or-before (middle b) t; high = s .high })
+      (λ t. record { apart = omega arith; within = omega (arith, s .within); low = s .low; high = later (middle b) t })
 
   -- neighbours on both sides of x
   pub halving-spans : (n : ℕ) (b : Bracket) → Spans n b → Spans n (halving rows x b) × (halving rows x b .upper ≤ halving rows x b .lower + 1)
@@ -106,10 +120,10 @@ module _ (rows : List Row) (x : ℕ) where
   -- ---- how many probes it takes
 
   half : (b : Bracket) (k : ℕ) → b .upper - b .lower ≤ k * 2 → probed rows x b .upper - probed rows x b .lower ≤ k
-  half b k h = cond-case (leb (rowMoment (rowAt rows (middle b))) x) (λ (q : Bracket). q .upper - q .lower ≤ k) (λ t. omega arith) (λ t. omega arith)
+  half b k h = cond-case (reached rows x (middle b)) (λ (q : Bracket). q .upper - q .lower ≤ k) (λ t. omega arith) (λ t. omega arith)
 
   one-more : (b : Bracket) → probed rows x b .probes ≡ b .probes + 1
-  one-more b = cond-case (leb (rowMoment (rowAt rows (middle b))) x) (λ (q : Bracket). q .probes ≡ b .probes + 1) (λ t. refl) (λ t. refl)
+  one-more b = cond-case (reached rows x (middle b)) (λ (q : Bracket). q .probes ≡ b .probes + 1) (λ t. refl) (λ t. refl)
 
   probing-most : (p w : ℕ) (b : Bracket) → b .upper - b .lower ≤ 2 ^ p → probing w rows x b .probes ≤ b .probes + p
   unfolding probing

@@ -33,16 +33,6 @@ module _ (rows : List Row) (x : ℕ) where
 
   -- ---- the cases
 
-  lookup-case : (P : Bracket → Type 0) → (x ≤ rowMoment (rowAt rows 0) → P (bracket 0 0 0))
-      → (rowMoment (rowAt rows 0) < x → rowMoment (rowAt rows last) ≤ x → P (bracket last last 0))
-      → (rowMoment (rowAt rows 0) < x → x < rowMoment (rowAt rows last) → P (halving rows x (bracket 0 last 0))) → P (lookupOf rows x)
-  unfolding lookupOf
-  lookup-case P before after amid =
-      cond-case (leb x (rowMoment (rowAt rows 0))) P (λ t. before (leb→le x (rowMoment (rowAt rows 0)) t)) (λ t.
-      let h = nleb→lt x (rowMoment (rowAt rows 0)) t in
-      cond-case (leb (rowMoment (rowAt rows last)) x) P (λ u. after h (leb→le (rowMoment (rowAt rows last)) x u)) (λ u.
-      amid h (nleb→lt (rowMoment (rowAt rows last)) x u)))
-
   pub lookup-first : x ≤ rowMoment (rowAt rows 0) → lookupOf rows x ≡ bracket 0 0 0
   unfolding lookupOf
   lookup-first h = rw (le-leb x (rowMoment (rowAt rows 0)) h) refl
@@ -54,6 +44,16 @@ module _ (rows : List Row) (x : ℕ) where
   pub lookup-amid : rowMoment (rowAt rows 0) < x → x < rowMoment (rowAt rows last) → lookupOf rows x ≡ halving rows x (bracket 0 last 0)
   unfolding lookupOf
   lookup-amid h k = rw (lt-leb x (rowMoment (rowAt rows 0)) h, lt-leb (rowMoment (rowAt rows last)) x k) refl
+
+  lookup-case : (P : Bracket → Type 0) → (x ≤ rowMoment (rowAt rows 0) → P (bracket 0 0 0))
+      → (rowMoment (rowAt rows 0) < x → rowMoment (rowAt rows last) ≤ x → P (bracket last last 0))
+      → (rowMoment (rowAt rows 0) < x → x < rowMoment (rowAt rows last) → P (halving rows x (bracket 0 last 0))) → P (lookupOf rows x)
+  unfolding lookupOf
+  lookup-case P before after amid =
+      cond-case (leb x (rowMoment (rowAt rows 0))) P (λ t. before (leb→le x (rowMoment (rowAt rows 0)) t)) (λ t.
+      let h = nleb→lt x (rowMoment (rowAt rows 0)) t in
+      cond-case (leb (rowMoment (rowAt rows last)) x) P (λ u. after h (leb→le (rowMoment (rowAt rows last)) x u)) (λ u.
+      amid h (nleb→lt (rowMoment (rowAt rows last)) x u)))
 
   -- ---- what it finds
 

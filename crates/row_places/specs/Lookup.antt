@@ -31,10 +31,14 @@ neighbours b = leb (b .upper) (b .lower + 1)
 abbrev pub middle : Bracket → ℕ
 middle b = (b .lower + b .upper) / 2
 
--- a probe: the middle row becomes the lower end where it is dated at or before x, else the upper
+-- the row at i is dated at or before x
+abbrev pub reached : List Row → ℕ → ℕ → Bool
+reached rows x i = leb (rowMoment (rowAt rows i)) x
+
+-- a probe: a middle row dated at or before x becomes the lower end, else the upper
 abbrev pub probed : List Row → ℕ → Bracket → Bracket
 probed rows x b =
-    cond (leb (rowMoment (rowAt rows (middle b))) x) (bracket (middle b) (b .upper) (b .probes + 1)) (bracket (b .lower) (middle b) (b .probes + 1))
+    cond (reached rows x (middle b)) (bracket (middle b) (b .upper) (b .probes + 1)) (bracket (b .lower) (middle b) (b .probes + 1))
 
 -- at most w probes, until the ends are neighbours
 unfoldable pub probing : ℕ → List Row → ℕ → Bracket → Bracket

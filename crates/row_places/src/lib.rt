@@ -78,9 +78,9 @@ fn halve(s: &[u8], x: u64, last: usize) -> Bracket
         }
     }
     Bracket {
-        lower: lower,
-        upper: upper,
-        probes: probes,
+        lower,
+        upper,
+        probes,
     }
 }
 

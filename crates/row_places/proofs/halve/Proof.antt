@@ -2,8 +2,7 @@
 -- between neighbours the rule gives the bracket itself. Assumes nothing.
 use mathlib.Core.Path.{_≡_, refl, sym, _∙_, ap}
 use mathlib.Core.List.{List}
-use Prim.Native.Nat.{ℕ, suc, _+_, _-_, _/_, _≤_, _<_}
-use native.Mathlib.Nat.{le-trans, le-of-eq, lt-of-lt-of-le}
+use Prim.Native.Nat.{ℕ, _+_, _-_, _≤_, _<_}
 use native.Mathlib.Omega.{arith}
 use lib.ListN.{length}
 use Rattle.rows.specs.declared.Row.{Row}
@@ -12,7 +11,7 @@ use Rattle.rows.specs.Places.{rowMoment}
 use Rattle.row_bytes.specs.Form.{rowCount, tableIn}
 use Rattle.row_bytes.proofs.Forms.{lent-few, lent-row}
 use Rattle.row_places.specs.declared.Bracket.{Bracket}
-use Rattle.row_places.specs.Lookup.{bracket, probed, halving}
+use Rattle.row_places.specs.Lookup.{bracket, middle, probed, halving}
 use Rattle.row_places.proofs.Halving.{probed-up, probed-down, halving-done, halving-goes-on}
 use Rattle.row_places.proofs.halve.Statement.{statement}
 use Rattle.row_places.proofs.halve.Tie as tie
@@ -40,7 +39,7 @@ abbrev here : tie.At-loop Inv-loop μ-loop → Bracket
 here h = bracket (h .loop .lower) (h .loop .upper) (h .loop .probes)
 
 abbrev mid : tie.At-loop Inv-loop μ-loop → ℕ
-mid h = (h .loop .lower + h .loop .upper) / 2
+mid h = middle (here h)
 
 -- ---- facts there
 
@@ -52,7 +51,7 @@ below : (c : tie.In-loop Inv-loop μ-loop) → mid (c .before) < rowCount (lengt
 below c = omega (arith, c .loop-test .taken, c .before .loop .inv .1, entry (c .before) .pre .1)
 
 date : (c : tie.After-row-moment Inv-loop μ-loop) → let h = round c .before in c .row-moment .result ≡ rowMoment (rowAt (rows h) (mid h))
-date c = c .row-moment .ensures ∙ ap rowMoment (c .before .row-at .ensures)
+date c = c .row-moment .ensures ∙ ap rowMoment (c .before .row-at .ensures ∙ ap (rowAt (rows (round c .before))) (omega arith))
 
 -- a probe: the rule goes on from what it leaves
 goes-on : (c : tie.In-loop Inv-loop μ-loop) (b : Bracket) → let h = c .before in probed (rows h) (entry h .args .x) (here h) ≡ b
@@ -74,7 +73,7 @@ add-probes : tie.Need-add-probes Inv-loop μ-loop
 add-probes c = omega (arith, few (c .before), c .before .loop .inv .2)
 
 row-at-requires : tie.Need-row-at-requires Inv-loop μ-loop
-row-at-requires c κs = (entry (c .before) .pre .0 .whole, below c)
+row-at-requires c κs = (entry (c .before) .pre .0 .whole, omega (arith, below c))
 
 row-moment-requires : tie.Need-row-moment-requires Inv-loop μ-loop
 row-moment-requires c κs = rw (c .row-at .ensures) (lent-row _ (entry (c .before .before) .pre .0) _ (below (c .before)))
@@ -89,7 +88,7 @@ loop-again c =
       omega (arith, r .loop-test .taken),
       h .loop .inv .1,
       omega (arith, h .loop .inv .2, r .loop-test .taken),
-      goes-on r _ (probed-up (rows h) (entry h .args .x) (here h) (le-trans (le-of-eq (sym (date (c .before)))) (c .if1 .taken))),
+      goes-on r _ (probed-up (rows h) (entry h .args .x) (here h) (omega (arith, date (c .before), c .if1 .taken))),
     )
 
 loop-less-2 : tie.Need-loop-less-2 Inv-loop μ-loop
@@ -102,7 +101,7 @@ loop-again-2 c =
       omega (arith, r .loop-test .taken),
       omega (arith, h .loop .inv .1, r .loop-test .taken),
       omega (arith, h .loop .inv .2, r .loop-test .taken),
-      goes-on r _ (probed-down (rows h) (entry h .args .x) (here h) (lt-of-lt-of-le (c .if1 .left) (le-of-eq (date (c .before))))),
+      goes-on r _ (probed-down (rows h) (entry h .args .x) (here h) (omega (arith, date (c .before), c .if1 .left))),
     )
 
 returns : tie.Need-returns Inv-loop μ-loop

@@ -2,7 +2,6 @@
 use mathlib.Core.Path.{_≡_, sym, _∙_, ap}
 use mathlib.Core.List.{List}
 use Prim.Native.Nat.{ℕ, _-_, _≤_, _<_}
-use native.Mathlib.Nat.{le-trans, le-of-eq, lt-of-le-of-lt, lt-of-lt-of-le}
 use native.Mathlib.Omega.{arith}
 use lib.ListN.{length}
 use Rattle.rows.specs.declared.Row.{Row}
@@ -43,7 +42,7 @@ first-date : (c : tie.After-row-moment) → c .row-moment .result ≡ rowMoment 
 first-date c = c .row-moment .ensures ∙ ap rowMoment (c .before .row-at .ensures)
 
 after-first : (c : tie.Else1) → rowMoment (rowAt (table (entry (c .before))) 0) < entry (c .before) .args .x
-after-first c = lt-of-le-of-lt (le-of-eq (sym (first-date (c .before)))) (c .if1 .left)
+after-first c = omega (arith, first-date (c .before), c .if1 .left)
 
 -- the last row's index and its date
 last-is : (c : tie.After-row-count) → let s = entry (past c .before) in c .row-count .result - 1 ≡ last s
@@ -52,7 +51,7 @@ last-is c = let s = entry (past c .before) in omega (arith, c .row-count .ensure
 last-date : (c : tie.After-row-moment2) → let s = entry (past (counted c) .before) in c .row-moment2 .result ≡ rowMoment (rowAt (table s) (last s))
 last-date c =
     let s = entry (past (counted c) .before) in
-    c .row-moment2 .ensures ∙ ap rowMoment (c .before .row-at2 .ensures ∙ ap (rowAt (table s)) (last-is (counted c)))
+    c .row-moment2 .ensures ∙ ap rowMoment (c .before .row-at2 .ensures ∙ ap (rowAt (table s)) (omega (arith, last-is (counted c))))
 
 row-at-requires : tie.Need-row-at-requires
 row-at-requires c κs = (c .before .pre .whole, omega (arith, two (c .before)))
@@ -61,7 +60,7 @@ row-moment-requires : tie.Need-row-moment-requires
 row-moment-requires c κs = let s : tie.Start = c .before .before in rw (c .row-at .ensures) (lent-row _ (s .pre) 0 (omega (arith, two s)))
 
 returns : tie.Need-returns
-returns c = let s = entry (c .before) in sym (lookup-first (table s) (s .args .x) (le-trans (c .if1 .taken) (le-of-eq (first-date (c .before)))))
+returns c = let s = entry (c .before) in sym (lookup-first (table s) (s .args .x) (omega (arith, first-date (c .before), c .if1 .taken)))
 
 row-count-requires : tie.Need-row-count-requires
 row-count-requires c κs = search needs
@@ -82,7 +81,7 @@ returns-2 c =
     let f = past (counted (c .before)) in
     let s = entry (f .before) in
     ap (λ (i : ℕ). bracket i i 0) (last-is (counted (c .before)))
-    ∙ sym (lookup-last (table s) (s .args .x) (after-first f) (le-trans (le-of-eq (sym (last-date (c .before)))) (c .if2 .taken)))
+    ∙ sym (lookup-last (table s) (s .args .x) (after-first f) (omega (arith, last-date (c .before), c .if2 .taken)))
 
 halve-requires : tie.Need-halve-requires
 halve-requires c κs =
@@ -97,7 +96,7 @@ returns-3 c =
     let s = entry (f .before) in
     c .halve .ensures
     ∙ ap (λ (i : ℕ). halving (table s) (s .args .x) (bracket 0 i 0)) (last-is (counted (l .before)))
-    ∙ sym (lookup-amid (table s) (s .args .x) (after-first f) (lt-of-lt-of-le (l .if2 .left) (le-of-eq (last-date (l .before)))))
+    ∙ sym (lookup-amid (table s) (s .args .x) (after-first f) (omega (arith, last-date (l .before), l .if2 .left)))
 
 pub lookup-spec : {M : Type 1} → statement M
 lookup-spec =

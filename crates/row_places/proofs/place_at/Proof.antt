@@ -55,16 +55,16 @@ returns : tie.Need-returns
 returns c =
     let r = c .before .before in
     let b : Bracket = looked r .lookup .result in
-    ap End (r .row-at .ensures) ∙ one (table (looked r)) b (c .if1 .taken) ∙ placed (looked r)
+    ap End (r .row-at .ensures) ∙ one (table (looked r)) b (omega (arith, c .if1 .taken)) ∙ placed (looked r)
 
 row-at-requires-2 : tie.Need-row-at-requires-2
-row-at-requires-2 c κs = let l : tie.After-lookup = looked (c .before .before) in (entry l .pre .whole, omega (arith, within l .1, table-count (entry l .args .s .now)))
+row-at-requires-2 c κs = let l : tie.After-lookup = looked (c .before .before) in (entry l .pre .whole, omega (arith, within l .0, within l .1, table-count (entry l .args .s .now)))
 
 returns-2 : tie.Need-returns-2
 returns-2 c =
     let r = c .before .before .before in
     let b : Bracket = looked r .lookup .result in
-    ap₂ Between (r .row-at .ensures) (c .row-at2 .ensures) ∙ both (table (looked r)) b (c .before .if1 .left) ∙ placed (looked r)
+    ap₂ Between (r .row-at .ensures) (c .row-at2 .ensures ∙ ap (rowAt (table (looked r))) (omega arith)) ∙ both (table (looked r)) b (c .before .if1 .left) ∙ placed (looked r)
 
 pub place-at-spec : {M : Type 1} → statement M
 place-at-spec =

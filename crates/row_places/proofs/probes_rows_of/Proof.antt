@@ -1,5 +1,5 @@
 -- `row_places::probes_rows_of` meets its contract: the bytes are refused, or they are accepted and the lookup is among their rows. Assumes nothing.
-use mathlib.Core.Path.{sym, _∙_, ap}
+use mathlib.Core.Path.{_≡_, sym, _∙_, ap}
 use mathlib.Core.List.{List}
 use Prim.Native.Nat.{ℕ}
 use native.Mathlib.Omega.{arith}
@@ -28,7 +28,10 @@ refusal-requires c κs = search needs
 
 returns : tie.Need-returns
 unfolding probesRowsOf bytesRefusal
-returns c = sym (refused-first (λ n. 0) (bytesCases (bytes (c .before))) _ (λ q. c .if1 .taken (c .before .refusal .ensures ∙ q)))
+returns c =
+    let a = c .before .before .before in
+    let e : probesRowsOf (bytes (c .before)) (a .args .day) (a .args .micros) ≡ 0 = refused-first (λ n. 0) (bytesCases (bytes (c .before))) _ (λ q. c .if1 .taken (c .before .refusal .ensures ∙ q)) in
+    omega (arith, e)
 
 probes-with-requires : tie.Need-probes-with-requires
 probes-with-requires c κs = lent _ (right c)
