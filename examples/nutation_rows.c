@@ -1,8 +1,8 @@
 /*
  * How a daemon uses nutation rows from a file, as tools/rows writes it: it reads the file, hands the bytes to
- * the library, and says in words why they are refused, or gives the offsets at an instant beside those of the
- * built-in rows. A year's new table is a new file, and the daemon stays as it is. It is an example and not part
- * of the proved product.
+ * the library, and says in words why they are refused, or gives the offsets at an instant and how many rows were
+ * probed for it, beside those of the built-in rows. A year's new table is a new file, and the daemon stays as it
+ * is. It is an example and not part of the proved product.
  *
  *     cc -O2 -Iinclude examples/nutation_rows.c target/staticlib/libenfysgar.a -lm -o nutation_rows
  *     ./nutation_rows FILE DAY MICROS
@@ -80,9 +80,10 @@ static int parse_micros(const char *text, uint64_t *micros)
     return errno == 0 && end != text && *end == '\0' && strchr("0123456789", text[0]) != NULL;
 }
 
-static void show(const char *edition, int64_t x, int64_t y, uint64_t uncertainty)
+static void show(const char *edition, int64_t x, int64_t y, uint64_t uncertainty, uint64_t probes)
 {
-    printf("%-14s X %" PRId64 " nas, Y %" PRId64 " nas, uncertainty %" PRIu64 " nas\n", edition, x, y, uncertainty);
+    printf("%-14s X %" PRId64 " nas, Y %" PRId64 " nas, uncertainty %" PRIu64 " nas, %" PRIu64 " rows probed\n",
+           edition, x, y, uncertainty, probes);
 }
 
 static int refused(const char *edition, uint32_t refusal)
@@ -111,10 +112,10 @@ int main(int argc, char **argv)
     if (refused("these rows", enfys_nutation_rows(rows, (size_t)length, day, micros, &x, &y, &uncertainty)))
         failed = 1;
     else
-        show("these rows", x, y, uncertainty);
+        show("these rows", x, y, uncertainty, enfys_nutation_rows_probes(rows, (size_t)length, day, micros));
     if (refused("built-in rows", enfys_nutation(day, micros, &x, &y, &uncertainty)))
         failed = 1;
     else
-        show("built-in rows", x, y, uncertainty);
+        show("built-in rows", x, y, uncertainty, enfys_nutation_probes(day, micros));
     return failed || fflush(stdout) != 0;
 }

@@ -442,6 +442,15 @@ int64_t enfys_nutation_x(int64_t day, uint64_t micros);
 int64_t enfys_nutation_y(int64_t day, uint64_t micros);
 uint64_t enfys_nutation_uncertainty(int64_t day, uint64_t micros);
 uint32_t enfys_nutation_refusal(int64_t day, uint64_t micros);
+/*
+ * How many of the built-in rows are probed to find those that the instant is between,
+ * for a budget of time; beside a refusal of enfys_nutation 0. The first and the last
+ * row bracket the instant, and the middle row, rounded down, is probed until the two
+ * are neighbours: one dated at or before the instant becomes the lower of them, else
+ * the upper. At or before the first row's date, and at or after the last row's, 0;
+ * never more than 5.
+ */
+uint64_t enfys_nutation_probes(int64_t day, uint64_t micros);
 
 /* (f) The same with rows of the caller's, as in enfys_nutation_rows. */
 int64_t enfys_nutation_rows_x(const uint8_t *rows, size_t length, int64_t day,
@@ -452,6 +461,13 @@ uint64_t enfys_nutation_rows_uncertainty(const uint8_t *rows, size_t length,
                                          int64_t day, uint64_t micros);
 uint32_t enfys_nutation_rows_refusal(const uint8_t *rows, size_t length, int64_t day,
                                      uint64_t micros);
+/*
+ * Of n rows at most p are probed, the least p for which n - 1 is at most 2 to the p:
+ * none of two rows, 5 of thirty, 8 of two hundred. The rows are found so; a call also
+ * tests all of them, which takes longer.
+ */
+uint64_t enfys_nutation_rows_probes(const uint8_t *rows, size_t length, int64_t day,
+                                    uint64_t micros);
 
 /* (g) What a record has, as in enfys_record_read. */
 int64_t enfys_record_day(const uint8_t *bytes, size_t length);

@@ -78,16 +78,19 @@ uint32_t model_multipliers(const int64_t k[6]);
 /* The three corrections of an accepted instant, in the units of the answers (model_zonal.c). */
 void model_zonal(struct instant at, double number[3]);
 
-/* The two offsets of an accepted instant in nanoarcseconds, and the uncertainty; the built-in rows (model_nutation.c).
+/*
+ * The two offsets of an accepted instant in nanoarcseconds, the uncertainty, and the rows that a lookup by halving
+ * probes; the built-in rows (model_nutation.c).
  */
 #define MODEL_ROWS 30
 extern const struct nutation_row model_built_in[MODEL_ROWS];
 void model_nutation(struct instant at, double offset[2]);
 uint64_t model_uncertainty(struct instant at);
+uint64_t model_probes(struct instant at);
 
 /* The same for any instant with rows from bytes. */
 uint32_t model_nutation_rows(const uint8_t *bytes, size_t length, struct instant at, double offset[2],
-                             uint64_t *uncertainty);
+                             uint64_t *uncertainty, uint64_t *probes);
 
 /* UTC readings, in the fields of model_instant, and instants (model_utc.c). */
 uint32_t model_utc_to_tt(const uint64_t field[7], struct instant *at);

@@ -85,6 +85,31 @@ static uint64_t uncertainty_of(const struct nutation_row *row, int rows, struct 
     return (uint64_t)((above + MISTAKE(35, below - 1, 0)) / below);
 }
 
+/*
+ * The steps of the halving rule from the rows `low` and `high`, counted from 1, until they are neighbours. The comment
+ * beside a mistake says what it does.
+ */
+static uint64_t halvings(const struct nutation_row *row, int low, int high, struct instant at)
+{
+    int middle = (low + high + MISTAKE(138, 0, 1)) / 2; /* rounded up */
+    int reached;
+
+    if (high - low < 2)
+        return MISTAKE(139, 0, 1); /* one more at the end */
+    if (MISTAKE(140, 0, 1))        /* a walk from the front */
+        middle = low + 1;
+    reached = since(&row[middle - 1], at) >= MISTAKE(141, 0, 1); /* a row at the instant becomes the upper end */
+    return 1 + (reached ? halvings(row, middle, high, at) : halvings(row, low, middle, at));
+}
+
+static uint64_t probes_of(const struct nutation_row *row, int rows, struct instant at)
+{
+    if (since(&row[0], at) <= MISTAKE(142, 0, -1) ||     /* but not at the first row's date */
+        since(&row[rows - 1], at) >= MISTAKE(143, 0, 1)) /* but not at the last row's */
+        return 0;
+    return halvings(row, 1, rows, at);
+}
+
 void model_nutation(struct instant at, double offset[2])
 {
     offsets_of(model_built_in, MODEL_ROWS, at, offset);
@@ -93,6 +118,11 @@ void model_nutation(struct instant at, double offset[2])
 uint64_t model_uncertainty(struct instant at)
 {
     return uncertainty_of(model_built_in, MODEL_ROWS, at);
+}
+
+uint64_t model_probes(struct instant at)
+{
+    return probes_of(model_built_in, MODEL_ROWS, at);
 }
 
 /* Rows from bytes. The comment beside a mistake says what it does. */
@@ -183,19 +213,20 @@ static uint32_t read_rows(const uint8_t *bytes, size_t length, struct nutation_r
 }
 
 uint32_t model_nutation_rows(const uint8_t *bytes, size_t length, struct instant at, double offset[2],
-                             uint64_t *uncertainty)
+                             uint64_t *uncertainty, uint64_t *probes)
 {
     struct nutation_row row[MOST_ROWS + 1];
     int rows = 0;
     uint32_t refusal = read_rows(bytes, length, row, &rows), instant = model_accept(at);
 
     offset[0] = offset[1] = 0.0;
-    *uncertainty = 0;
+    *uncertainty = *probes = 0;
     if (MISTAKE(120, 0, instant == 8) || MISTAKE(130, 0, refusal > 22 && instant != 0)) /* the instant first */
         return instant;
     if (refusal != 0 || instant != 0)
         return refusal != 0 ? refusal : instant;
     offsets_of(row, rows, at, offset);
     *uncertainty = uncertainty_of(row, rows, at);
+    *probes = probes_of(row, rows, at);
     return 0;
 }

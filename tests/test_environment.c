@@ -11,7 +11,7 @@
 #include <fenv.h>
 #include <xmmintrin.h>
 
-#define NUMBERS 104
+#define NUMBERS 106
 #define FLUSH_TO_ZERO 0x8040u /* of results and of operands */
 
 static const int directions[] = {FE_UPWARD, FE_DOWNWARD, FE_TOWARDZERO};
@@ -109,10 +109,12 @@ static int answers(int64_t day, uint64_t micros, uint64_t number[NUMBERS])
     number[n++] = (uint64_t)enfys_nutation_y(day, micros);
     number[n++] = enfys_nutation_uncertainty(day, micros);
     number[n++] = enfys_nutation_refusal(day, micros);
+    number[n++] = enfys_nutation_probes(day, micros);
     number[n++] = (uint64_t)enfys_nutation_rows_x(rows, sizeof rows, day, micros);
     number[n++] = (uint64_t)enfys_nutation_rows_y(rows, sizeof rows, day, micros);
     number[n++] = enfys_nutation_rows_uncertainty(rows, sizeof rows, day, micros);
     number[n++] = enfys_nutation_rows_refusal(rows, sizeof rows, day, micros);
+    number[n++] = enfys_nutation_rows_probes(rows, sizeof rows, day, micros);
     number[n++] = enfys_run_write(day, micros, 2, 900000000, run, sizeof run);
     for (size_t i = 0; i < sizeof run; i++)
         sum = sum * 257 + run[i];

@@ -1,4 +1,4 @@
-/* Service (f): nutation offsets, at most 2 nanoarcseconds from the exact ones, and their uncertainty. */
+/* Service (f): nutation offsets, at most 2 nanoarcseconds from the exact ones, their uncertainty, and the probes. */
 #include "../include/enfysgar.h"
 #include "check.h"
 #include "model.h"
@@ -11,7 +11,10 @@
 /* 2, and room for the model's own rounding: angles of some hundred radians, offsets to 400000. */
 #define DISTANCE 2.000001
 
+#define MOST_PROBES 5
+
 static double farthest;
+static unsigned probed[MOST_PROBES + 1];
 
 static void nutation(int64_t day, uint64_t micros)
 {
@@ -19,11 +22,14 @@ static void nutation(int64_t day, uint64_t micros)
     uint32_t refusal = model_accept(at);
     double want[2];
     int64_t x, y;
-    uint64_t uncertainty = refusal ? 0 : model_uncertainty(at);
+    uint64_t uncertainty = refusal ? 0 : model_uncertainty(at),
+             probes = refusal ? MISTAKE(144, 0, 1) : model_probes(at);
     const struct number numbers[] = {NUMBER(x), NUMBER(y), NUMBER(uncertainty)};
 
     SAME_U(enfys_nutation_refusal(day, micros), refusal, INSTANT);
     SAME_U(enfys_nutation_uncertainty(day, micros), uncertainty, INSTANT);
+    SAME_U(enfys_nutation_probes(day, micros), probes, INSTANT);
+    probed[probes < MOST_PROBES ? probes : MOST_PROBES]++;
     if (refusal) {
         SAME_I(enfys_nutation_x(day, micros), 0, INSTANT);
         SAME_I(enfys_nutation_y(day, micros), 0, INSTANT);
@@ -36,13 +42,19 @@ static void nutation(int64_t day, uint64_t micros)
     WHOLE(enfys_nutation(day, micros, OUT(int64_t, 0), OUT(int64_t, 1), OUT(uint64_t, 2)), refusal, numbers, INSTANT);
 }
 
-/* Four uncertainties. */
+/* Four uncertainties, and the probes around the dates of the first, the eighth and the last row. */
 static void reference(void)
 {
     SAME_U(enfys_nutation_uncertainty(45700, 0), 39440, "day 45700, micros 0");
     SAME_U(enfys_nutation_uncertainty(45699, 0), 39705, "day 45699, micros 0");
     SAME_U(enfys_nutation_uncertainty(45883, 0), 30840, "day 45883, micros 0");
     SAME_U(enfys_nutation_uncertainty(56294, 0), 3985, "day 56294, micros 0");
+    SAME_U(enfys_nutation_probes(45700, 0), 0, "day 45700, micros 0");
+    SAME_U(enfys_nutation_probes(45700, 1), 4, "day 45700, micros 1");
+    SAME_U(enfys_nutation_probes(48256, DAY_MICROS - 1), 5, "day 48256, the last microsecond");
+    SAME_U(enfys_nutation_probes(48257, 0), 4, "day 48257, micros 0");
+    SAME_U(enfys_nutation_probes(56292, DAY_MICROS - 1), 5, "day 56292, the last microsecond");
+    SAME_U(enfys_nutation_probes(56293, 0), 0, "day 56293, micros 0");
 }
 
 /* Row dates, the microseconds and the days around them, and the ends of the range. */
@@ -83,6 +95,10 @@ int main(int argc, char **argv)
         nutation(some_day(), some_micros());
     for (int i = 0; i < 200000; i++)
         nutation((int64_t)edge(), edge());
+    /* thirty rows take four probes or five */
+    for (int i = 4; i <= MOST_PROBES; i++)
+        if (probed[i] < 1000)
+            differs("the inputs", text_u64(probed[i]), "1000 or more", "times that %d probes came up", i);
     snprintf(note, sizeof note, "farthest from double precision %.3f", farthest);
     return end(note);
 }

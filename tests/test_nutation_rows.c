@@ -1,6 +1,6 @@
 /*
  * Service (f) with rows from bytes: which bytes are refused and by which number, and for accepted ones
- * offsets at most 2 nanoarcseconds from the exact ones, and their uncertainty. The built-in rows, written
+ * offsets at most 2 nanoarcseconds from the exact ones, their uncertainty, and the probes. The built-in rows, written
  * as bytes, have to give what the built-in edition gives.
  */
 #include "../include/enfysgar.h"
@@ -24,7 +24,7 @@ static size_t length;
 static const char *tried = "";
 
 static uint8_t *front, *back; /* blocks behind and before unmapped memory, each with room for guard bytes */
-static unsigned seen[25];
+static unsigned seen[25], probed[9];
 static double farthest;
 
 static const char *text_slice(void)
@@ -40,17 +40,19 @@ static const char *text_slice(void)
 
 #define INPUTS "%s: day %" PRId64 ", micros %" PRIu64 ", %zu bytes: %s", tried, day, micros, length, text_slice()
 
-/* All five calls on a slice. */
+/* All six calls on a slice. */
 static void compare(const uint8_t *rows, int64_t day, uint64_t micros)
 {
     double want[2];
     int64_t x = 0, y = 0;
-    uint64_t uncertainty;
-    uint32_t refusal = model_nutation_rows(bytes, length, (struct instant){day, micros}, want, &uncertainty);
+    uint64_t uncertainty, probes;
+    uint32_t refusal = model_nutation_rows(bytes, length, (struct instant){day, micros}, want, &uncertainty, &probes);
     const struct number numbers[] = {NUMBER(x), NUMBER(y), NUMBER(uncertainty)};
 
     SAME_U(enfys_nutation_rows_refusal(rows, length, day, micros), refusal, INPUTS);
     SAME_U(enfys_nutation_rows_uncertainty(rows, length, day, micros), uncertainty, INPUTS);
+    SAME_U(enfys_nutation_rows_probes(rows, length, day, micros), refusal ? MISTAKE(144, 0, 1) : probes, INPUTS);
+    probed[probes < 8 ? probes : 8] += refusal == 0;
     if (refusal) {
         SAME_I(enfys_nutation_rows_x(rows, length, day, micros), 0, INPUTS);
         SAME_I(enfys_nutation_rows_y(rows, length, day, micros), 0, INPUTS);
@@ -333,6 +335,8 @@ static void editions(int64_t day, uint64_t micros)
            enfys_nutation_uncertainty(day + MISTAKE(136, 0, 1), micros), INPUTS);
     SAME_U(enfys_nutation_rows_refusal(bytes, length, day, micros),
            enfys_nutation_refusal(day + MISTAKE(137, 0, 1), micros), INPUTS);
+    SAME_U(enfys_nutation_rows_probes(bytes, length, day, micros),
+           enfys_nutation_probes(day + MISTAKE(145, 0, 1), micros), INPUTS);
 }
 
 static void both_editions(void)
@@ -377,6 +381,9 @@ int main(int argc, char **argv)
         if (seen[refusals[i]] < 1000)
             differs("the inputs", text_u64(seen[refusals[i]]), "1000 or more", "times that refusal %d came up",
                     refusals[i]);
+    for (int i = 0; i <= 8; i++)
+        if (probed[i] < 1000)
+            differs("the inputs", text_u64(probed[i]), "1000 or more", "times that %d probes came up", i);
     snprintf(note, sizeof note, "farthest from double precision %.3f", farthest);
     return end(note);
 }
