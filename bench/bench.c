@@ -50,6 +50,8 @@ static struct row {
     {"with 200 rows from bytes", offsets_200, offsets_200_plain, 1.8, 0, 0},
     {"with 30 rows, against our built-in ones", offsets_30, offsets, 0, 0, 0},
     {"with 200 rows, against our built-in ones", offsets_200, offsets, 0, 0, 0},
+    {"probes of the built-in rows", probes, probes_plain, 0, 0, 0},
+    {"probes of 200 rows from bytes", probes_200, probes_200_plain, 1.8, 0, 0},
     {"day to date", date, date_plain, 1.1, 0, 0},
     {"4096 days in a row to dates", dates, dates_plain, 1.2, 0, 0},
     {"record read", read_back, read_back_plain, 0.8, 0, 0},
@@ -128,6 +130,7 @@ static void make_inputs(void)
     make_rows();
     for (int i = 0; i < INPUTS; i++) {
         at[i] = (struct instant){(int64_t)(16000 + next() % 72000), next() % 86400000000};
+        inside[i] = (struct instant){(int64_t)(45700 + next() % 10593), next() % 86400000000};
         for (int k = 0; k < 6; k++)
             multiplier[i][k] = (int64_t)(next() % 7) - 3;
     }
@@ -197,6 +200,7 @@ static int right(void)
         wrong += constituent(i) != constituent_plain(i) || phase(i) != phase_plain(i);
         wrong += !same_rows(rows_30, sizeof rows_30, i) || !same_rows(rows_200, sizeof rows_200, i);
         wrong += offsets_30(i) != offsets(i);
+        wrong += probes(i) != probes_plain(i) || probes_200(i) != probes_200_plain(i);
     }
     for (int i = 0; i < STEPS; i++)
         for (uint64_t micros = 0; micros < 100000000; micros += 500000)

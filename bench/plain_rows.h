@@ -49,7 +49,41 @@ static uint32_t rows_plain_refusal(const uint8_t *bytes, size_t length)
     return days || before > LAST_DAY ? 23 : sizes ? 24 : 0;
 }
 
-/* In one call of its own, with the parameters that the library's has. */
+/* The refusal of an instant, 8 or 9 or 0. */
+static uint32_t instant_plain_refusal(int64_t day, uint64_t micros)
+{
+    return day < FIRST_DAY || day > LAST_DAY ? 8 : micros >= DAY_MICROS ? 9 : 0;
+}
+
+/* The rows of good bytes that are probed for an instant. */
+static inline uint64_t probes_plain_of(const uint8_t *bytes, size_t length, int64_t day, uint64_t micros)
+{
+    size_t low = 0, high = (length - 3) / 16 - 1;
+    int64_t first = word_plain(bytes + 3);
+    uint64_t probes = 0;
+
+    if (day < first || (day == first && micros == 0) || day >= word_plain(bytes + 3 + 16 * high))
+        return 0;
+    for (; high - low > 1; probes++) {
+        size_t middle = (low + high) / 2;
+
+        if (word_plain(bytes + 3 + 16 * middle) <= day)
+            low = middle;
+        else
+            high = middle;
+    }
+    return probes;
+}
+
+/* In calls of their own, with the parameters that the library's have. */
+__attribute__((noinline)) static uint64_t probes_plain_rows(const uint8_t *bytes, size_t length, int64_t day,
+                                                            uint64_t micros)
+{
+    if (rows_plain_refusal(bytes, length) != 0 || instant_plain_refusal(day, micros) != 0)
+        return 0;
+    return probes_plain_of(bytes, length, day, micros);
+}
+
 __attribute__((noinline)) static uint32_t nutation_plain_rows(const uint8_t *bytes, size_t length, int64_t day,
                                                               uint64_t micros, int64_t *x, int64_t *y,
                                                               uint64_t *uncertainty)
@@ -61,10 +95,9 @@ __attribute__((noinline)) static uint32_t nutation_plain_rows(const uint8_t *byt
 
     if (refusal != 0)
         return refusal;
-    if (day < FIRST_DAY || day > LAST_DAY)
-        return 8;
-    if (micros >= DAY_MICROS)
-        return 9;
+    refusal = instant_plain_refusal(day, micros);
+    if (refusal != 0)
+        return refusal;
     while (high - low > 1) {
         size_t middle = (low + high) / 2;
 

@@ -16,6 +16,7 @@
 #define ROW_DAYS 4096
 
 static struct instant at[INPUTS], utc_at[INPUTS]; /* the second has those of the readings */
+static struct instant inside[INPUTS];             /* between the dates of the first and the last built-in row */
 static uint64_t reading[INPUTS][7];
 static int64_t multiplier[INPUTS][6];
 static uint8_t record[INPUTS][30];
@@ -126,6 +127,28 @@ static double offsets_200(int i)
 static double offsets_200_plain(int i)
 {
     return offsets_of(nutation_plain_rows, rows_200, sizeof rows_200, i);
+}
+
+static double probes(int i)
+{
+    return (double)enfys_nutation_probes(inside[i].day, inside[i].micros);
+}
+
+__attribute__((noinline)) static double probes_plain(int i)
+{
+    if (instant_plain_refusal(inside[i].day, inside[i].micros) != 0)
+        return 0;
+    return (double)probes_plain_of(rows_30, sizeof rows_30, inside[i].day, inside[i].micros);
+}
+
+static double probes_200(int i)
+{
+    return (double)enfys_nutation_rows_probes(rows_200, sizeof rows_200, at[i].day, at[i].micros);
+}
+
+static double probes_200_plain(int i)
+{
+    return (double)probes_plain_rows(rows_200, sizeof rows_200, at[i].day, at[i].micros);
 }
 
 static double date(int i)
