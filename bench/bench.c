@@ -46,7 +46,9 @@ static struct row {
 } rows[] = {
     {"three corrections", corrections, corrections_plain, 0.45, 0, 0},
     {"both offsets and the uncertainty, against two", offsets, offsets_plain, 1.9, 0, 0},
-    {"the same with 30 rows from bytes", offsets_30, offsets_30_plain, 1.5, 0, 0},
+    {"the same, all between the rows", offsets_inside, offsets_inside_plain, 0, 0, 0},
+    {"between the rows, one after the other", offsets_onward, offsets_onward_plain, 0, 0, 0},
+    {"both with 30 rows from bytes", offsets_30, offsets_30_plain, 1.5, 0, 0},
     {"with 200 rows from bytes", offsets_200, offsets_200_plain, 1.8, 0, 0},
     {"with 30 rows, against our built-in ones", offsets_30, offsets, 0, 0, 0},
     {"with 200 rows, against our built-in ones", offsets_200, offsets, 0, 0, 0},
@@ -131,6 +133,7 @@ static void make_inputs(void)
     for (int i = 0; i < INPUTS; i++) {
         at[i] = (struct instant){(int64_t)(16000 + next() % 72000), next() % 86400000000};
         inside[i] = (struct instant){(int64_t)(45700 + next() % 10593), next() % 86400000000};
+        onward[i] = (struct instant){45700 + 10593 * (int64_t)i / INPUTS, 43200000000};
         for (int k = 0; k < 6; k++)
             multiplier[i][k] = (int64_t)(next() % 7) - 3;
     }

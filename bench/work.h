@@ -16,7 +16,8 @@
 #define ROW_DAYS 4096
 
 static struct instant at[INPUTS], utc_at[INPUTS]; /* the second has those of the readings */
-static struct instant inside[INPUTS];             /* between the dates of the first and the last built-in row */
+/* Between the dates of the first and the last built-in row: in any order, and one after the other. */
+static struct instant inside[INPUTS], onward[INPUTS];
 static uint64_t reading[INPUTS][7];
 static int64_t multiplier[INPUTS][6];
 static uint8_t record[INPUTS][30];
@@ -78,21 +79,51 @@ static double corrections_plain(int i)
     return number[0] + number[1] + number[2];
 }
 
-static double offsets(int i)
+static double offsets_at(struct instant when)
 {
     int64_t x = 0, y = 0;
     uint64_t uncertainty = 0;
 
-    enfys_nutation(at[i].day, at[i].micros, &x, &y, &uncertainty);
+    enfys_nutation(when.day, when.micros, &x, &y, &uncertainty);
     return (double)x + (double)y;
+}
+
+static double offsets_plain_at(struct instant when)
+{
+    double offset[2];
+
+    model_nutation(when, offset);
+    return offset[0] + offset[1];
+}
+
+static double offsets(int i)
+{
+    return offsets_at(at[i]);
 }
 
 static double offsets_plain(int i)
 {
-    double offset[2];
+    return offsets_plain_at(at[i]);
+}
 
-    model_nutation(at[i], offset);
-    return offset[0] + offset[1];
+static double offsets_inside(int i)
+{
+    return offsets_at(inside[i]);
+}
+
+static double offsets_inside_plain(int i)
+{
+    return offsets_plain_at(inside[i]);
+}
+
+static double offsets_onward(int i)
+{
+    return offsets_at(onward[i]);
+}
+
+static double offsets_onward_plain(int i)
+{
+    return offsets_plain_at(onward[i]);
 }
 
 /* What gives the offsets with rows from bytes: the library's call or plain C's. */

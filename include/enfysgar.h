@@ -87,9 +87,9 @@ extern "C" {
  * used, since its arguments would be taken for others: compile it anew.
  */
 #define ENFYS_VERSION_MAJOR 2
-#define ENFYS_VERSION_MINOR 1
+#define ENFYS_VERSION_MINOR 2
 #define ENFYS_VERSION_PATCH 0
-#define ENFYS_VERSION_STRING "2.1.0"
+#define ENFYS_VERSION_STRING "2.2.0"
 
 /*
  * Refusal numbers. 0 is success. Where several apply, the first in the order
@@ -286,8 +286,8 @@ uint32_t enfys_nutation(int64_t day, uint64_t micros, int64_t *x, int64_t *y,
  *
  * A call reads `rows` and changes none of it. It keeps nothing: each call tests all
  * rows again, also where the caller knows that they are good. With 30 rows a call
- * takes about 0.15 microseconds and with 200 rows 0.7, where one with the built-in
- * rows takes 0.05 (AMD EPYC; docs/BENCHMARKS.md of the source).
+ * takes about 0.12 microseconds and with 200 rows 0.6, where one with the built-in
+ * rows takes 0.04 to 0.06 (Intel Xeon; docs/BENCHMARKS.md of the source).
  *
  * The tool enfysgar-rows makes such bytes of a text that an operator can write, and
  * text of the bytes.
