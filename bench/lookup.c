@@ -87,12 +87,13 @@ static int compare(size_t count, int in_order)
 
         for (size_t k = 0; k < 4; k++)
             rows[3 + 16 * i + k] = (uint8_t)(day >> (24 - 8 * k) & 0xff);
+        rows[3 + 16 * i + 15] = 1; /* an uncertainty: the lookup is asked of accepted rows alone */
     }
     for (uint64_t i = 0; i < INPUTS; i++)
         at[i] = BEFORE_DAY_0 + FIRST_ROW * DAY_MICROS + (in_order ? span / INPUTS * i : next() % span);
     printf("%3zu rows, instants %-21s %6.1f", count, in_order ? "one after the other" : "in any order",
            time_of(looked_up, length, &ours));
-    printf(" %6.1f\n", time_of(looked_up_plain, length, &plain));
+    printf(" %8.1f\n", time_of(looked_up_plain, length, &plain));
     return ours == plain;
 }
 
@@ -100,7 +101,7 @@ int main(void)
 {
     int same = 1;
 
-    printf("%44s %6s, ns\n", "ours", "plain C");
+    printf("%47s %8s, ns\n", "ours", "plain C");
     for (int in_order = 0; in_order < 2; in_order++) {
         same &= compare(30, in_order);
         same &= compare(200, in_order);

@@ -443,12 +443,12 @@ int64_t enfys_nutation_y(int64_t day, uint64_t micros);
 uint64_t enfys_nutation_uncertainty(int64_t day, uint64_t micros);
 uint32_t enfys_nutation_refusal(int64_t day, uint64_t micros);
 /*
- * How many of the built-in rows are probed to find those that the instant is between,
- * for a budget of time; beside a refusal of enfys_nutation 0. The first and the last
- * row bracket the instant, and the middle row, rounded down, is probed until the two
- * are neighbours: one dated at or before the instant becomes the lower of them, else
- * the upper. At or before the first row's date, and at or after the last row's, 0;
- * never more than 5.
+ * How many of the built-in rows are probed to find the two that the instant is
+ * between, for a budget of time. From the first and the last row on, the row in the
+ * middle (rounded down) is probed until the two are neighbours: where the instant is
+ * before its date it takes the place of the later of the two, else of the earlier. At
+ * most 5; none up to the first row's date and from the last row's on, nor beside a
+ * refusal of enfys_nutation.
  */
 uint64_t enfys_nutation_probes(int64_t day, uint64_t micros);
 
@@ -462,9 +462,10 @@ uint64_t enfys_nutation_rows_uncertainty(const uint8_t *rows, size_t length,
 uint32_t enfys_nutation_rows_refusal(const uint8_t *rows, size_t length, int64_t day,
                                      uint64_t micros);
 /*
- * Of n rows at most p are probed, the least p for which n - 1 is at most 2 to the p:
- * none of two rows, 5 of thirty, 8 of two hundred. The rows are found so; a call also
- * tests all of them, which takes longer.
+ * The same for the caller's rows, and 0 beside a refusal of enfys_nutation_rows. Of n
+ * rows at most p are probed, the least p for which n - 1 is at most 2 to the p: none
+ * of two rows, 5 of thirty, 8 of two hundred. Before they are looked up a call tests
+ * all rows, which takes longer.
  */
 uint64_t enfys_nutation_rows_probes(const uint8_t *rows, size_t length, int64_t day,
                                     uint64_t micros);

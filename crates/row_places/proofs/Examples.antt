@@ -1,4 +1,4 @@
--- Probes at some instants, computed: the bounds are reached, and a moment at a row's date is at or after that row. Assumes nothing.
+-- Probes at some instants, computed, around the dates of rows; five and eight are reached. Assumes nothing.
 use mathlib.Core.Path.{_≡_, refl, sym, _∙_, ap}
 use mathlib.Core.List.{List, [], _∷_}
 use Prim.Native.Nat.{ℕ, zero, suc, _+_}
@@ -9,7 +9,7 @@ use Rattle.instants.specs.Instants.{outside, dayIndex}
 use Rattle.rows.specs.declared.Row.{Row}
 use Rattle.rows.specs.Table.{row, daysWrong, numbersWrong, AcceptedTable}
 use Rattle.rows.specs.BuiltIn.{builtIn}
-use Rattle.row_bytes.specs.Form.{rowCount, tableBytes, tableIn, AcceptedBytes}
+use Rattle.row_bytes.specs.Form.{rowCount, tableBytes, AcceptedBytes}
 use Rattle.row_bytes.proofs.Reading.{table-count}
 use Rattle.row_bytes.proofs.Round.{table-back, table-accepted}
 use Rattle.row_places.specs.Lookup.{probing, halving, lookupOf, probesWith, probesOf, probesRowsOf}

@@ -1,7 +1,7 @@
 -- The lookup by its three cases: what it finds is the place of x, and it probes as many rows as halving does. Assumes nothing.
 use mathlib.Core.Path.{_≡_, refl, sym, _∙_, ap, subst}
 use mathlib.Core.List.{List, _++_}
-use Prim.Native.Nat.{ℕ, suc, _+_, _-_, _^_, _≤_, _<_, zero-le}
+use Prim.Native.Nat.{ℕ, _+_, _-_, _^_, _≤_, _<_, zero-le}
 use native.Mathlib.Nat as N
 use native.Mathlib.Omega.{arith}
 use lib.Dec.{leb, leb→le, nleb→lt, lit≤}
@@ -15,7 +15,7 @@ use Rattle.instants.specs.Instants.{instantCases, IsAccepted}
 use Rattle.instants.specs.Moments.{momentOf}
 use Rattle.algebra.proofs.Tests.{cond-case}
 use Rattle.rows.specs.declared.Row.{Row}
-use Rattle.rows.specs.declared.Place.the-variants.{End, Between}
+use Rattle.rows.specs.declared.Place.the-variants.{Between}
 use Rattle.rows.specs.Table.{rowAt, AcceptedTable}
 use Rattle.rows.specs.BuiltIn.{builtIn}
 use Rattle.rows.specs.Places.{rowMoment, place}

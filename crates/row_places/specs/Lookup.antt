@@ -35,7 +35,7 @@ middle b = (b .lower + b .upper) / 2
 abbrev pub reached : List Row → ℕ → ℕ → Bool
 reached rows x i = leb (rowMoment (rowAt rows i)) x
 
--- a probe: a middle row dated at or before x becomes the lower end, else the upper
+-- a probe: the middle row takes the place of the lower end where x has reached its date, else that of the upper
 abbrev pub probed : List Row → ℕ → Bracket → Bracket
 probed rows x b =
     cond (reached rows x (middle b)) (bracket (middle b) (b .upper) (b .probes + 1)) (bracket (b .lower) (middle b) (b .probes + 1))

@@ -131,7 +131,7 @@ fn probes_with(s: &[u8], day: i64, micros: u64) -> u64
     }
 }
 
-// With the built-in rows.
+// The probes at an instant with the built-in rows, or 0 beside refusal 8 or 9.
 pub fn probes_of(day: i64, micros: u64) -> u64
     ensures { λ r. ⌜ r ≡ probesOf day micros ⌝ }
 {
@@ -139,7 +139,7 @@ pub fn probes_of(day: i64, micros: u64) -> u64
     probes_with(&s, day, micros)
 }
 
-// With the rows in the bytes s, or 0 beside refusals 21 to 24 as well.
+// The probes at an instant with the rows in the bytes s, or 0 beside refusals 21 to 24, 8 and 9.
 pub fn probes_rows_of(s: &[u8], day: i64, micros: u64) -> u64
     ensures { λ r. ⌜ r ≡ probesRowsOf (now (s .entry)) day micros ⌝ }
 {

@@ -1,7 +1,7 @@
 -- `row_places::place_at` meets its contract: the rows that the lookup finds are those of the place. Assumes nothing.
 use mathlib.Core.Path.{_≡_, refl, sym, _∙_, ap, ap₂, subst}
 use mathlib.Core.List.{List}
-use Prim.Native.Nat.{ℕ, _<_}
+use Prim.Native.Nat.{_<_}
 use native.Mathlib.Omega.{arith}
 use lib.ListN.{length}
 use borrow.Author.Tests.{eq-eqb, ne-eqb}
@@ -12,7 +12,7 @@ use Rattle.rows.specs.Places.{place}
 use Rattle.row_bytes.specs.Form.{tableIn}
 use Rattle.row_bytes.proofs.Reading.{table-count}
 use Rattle.row_places.specs.declared.Bracket.{Bracket}
-use Rattle.row_places.specs.Lookup.{lookupOf, placeIn}
+use Rattle.row_places.specs.Lookup.{placeIn}
 use Rattle.row_places.proofs.Probes.{lookup-within, lookup-place}
 use borrow.Author.Needs.{needs}
 use Rattle.row_places.proofs.place_at.Statement.{statement}

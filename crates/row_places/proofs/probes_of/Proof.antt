@@ -1,5 +1,5 @@
 -- `row_places::probes_of` meets its contract: the bytes of the built-in rows are accepted, and their rows are read back. Assumes nothing.
-use mathlib.Core.Path.{sym, _∙_, ap, ap₂, subst}
+use mathlib.Core.Path.{_≡_, sym, _∙_, ap, ap₂, subst}
 use mathlib.Core.List.{List}
 use lib.IntN.{ℤ}
 use mir.Facts.{toZ-ofZ}
@@ -25,8 +25,8 @@ returns : tie.Need-returns
 unfolding probesOf
 returns c =
     let b = c .before .before in
-    c .probes-with .ensures
-    ∙ ap₂ (λ (rows : List Row) (d : ℤ). probesWith rows d (b .before .args .micros)) (ap tableIn (b .built-in .ensures) ∙ built-in-back) (toZ-ofZ (b .before .fits .day))
+    let e : c .probes-with .result ≡ probesWith (tableIn _) _ (b .before .args .micros) = c .probes-with .ensures in
+    e ∙ ap₂ (λ (rows : List Row) (d : ℤ). probesWith rows d (b .before .args .micros)) (ap tableIn (b .built-in .ensures) ∙ built-in-back) (toZ-ofZ (b .before .fits .day))
 
 pub probes-of-spec : {M : Type 1} → statement M
 probes-of-spec =

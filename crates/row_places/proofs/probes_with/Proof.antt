@@ -1,7 +1,6 @@
 -- `row_places::probes_with` meets its contract, by the two cases of acceptance: 0 beside a refusal, and of an accepted instant the probes of the lookup at
 -- the moment of its day's index. Assumes nothing.
 use mathlib.Core.Path.{_≡_, sym, _∙_, ap}
-use mathlib.Core.List.{List}
 use Prim.Native.Nat.{ℕ}
 use native.Mathlib.Omega.{arith}
 use lib.IntN.{ℤ}
@@ -11,7 +10,6 @@ use Rattle.instants.specs.Instants.{acceptance}
 use Rattle.instants.specs.Moments.{moment}
 use Rattle.instants.specs.declared.Acceptance.the-variants.{Accepted}
 use Rattle.instants.proofs.Accepted.{AcceptedAt, accepted-at, refused-too, answered-too}
-use Rattle.rows.specs.declared.Row.{Row}
 use Rattle.row_bytes.specs.Form.{tableIn}
 use Rattle.row_places.specs.declared.Bracket.{Bracket}
 use Rattle.row_places.specs.Lookup.{lookupOf}
