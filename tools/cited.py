@@ -4,8 +4,8 @@
     tools/cited.py [ROOT] [--self-test]
 
 Names in backticks are defined in crates/ or include/enfysgar.h, paths exist, and a name stands in the file that is named with it. In docs/PROMISES.md each field of the
-three demands and each theorem marked PROMISE is cited; in docs/WRONG_ROWS.md each must-fail edit of the crates ROWS, in docs/WRONG_PROGRAMS.md each other one. With --self-test mistakes are then planted one by one, in memory,
-and each of them must be noticed."""
+three demands and each theorem marked PROMISE is cited; in docs/WRONG_ROWS.md each must-fail edit of the crates ROWS, in docs/WRONG_PROGRAMS.md each other one. With
+--self-test mistakes are then planted one by one, in memory, and each of them must be noticed."""
 
 import re
 import sys
