@@ -1,4 +1,5 @@
--- The lookup by its three cases: what it finds is the place of x, and it probes as many rows as halving does. Assumes nothing.
+-- The lookup by its three cases, and the probes at an instant. What it finds is the place of x: halving leaves neighbours around x, and there is but one such pair
+-- (`place-between`). It probes as many rows as halving does. Assumes nothing.
 use mathlib.Core.Path.{_≡_, refl, sym, _∙_, ap, subst}
 use mathlib.Core.List.{List, _++_}
 use Prim.Native.Nat.{ℕ, _+_, _-_, _^_, _≤_, _<_, zero-le}
@@ -8,11 +9,11 @@ use lib.Dec.{leb, leb→le, nleb→lt, lit≤}
 use lib.IntN.{ℤ}
 use lib.ListN.{length}
 use borrow.Author.Tests.{le-leb, lt-leb, eq-eqb, ne-eqb}
-use Rattle.instants.proofs.FirstRefusal.{in-each, none-answered, refused-first}
-use Rattle.instants.proofs.Accepted.{answered-too}
 use Rattle.instants.specs.Refusals.{firstRefusal}
 use Rattle.instants.specs.Instants.{instantCases, IsAccepted}
 use Rattle.instants.specs.Moments.{momentOf}
+use Rattle.instants.proofs.FirstRefusal.{in-each, none-answered, refused-first}
+use Rattle.instants.proofs.Accepted.{answered-too}
 use Rattle.algebra.proofs.Tests.{cond-case}
 use Rattle.rows.specs.declared.Row.{Row}
 use Rattle.rows.specs.declared.Place.the-variants.{Between}
@@ -57,7 +58,7 @@ module _ (rows : List Row) (x : ℕ) where
 
   -- ---- what it finds
 
-  -- of two rows or more, neighbours on both sides of x, or an end
+  -- between the dates of the first and the last row: neighbours around x
   found : 2 ≤ length rows → rowMoment (rowAt rows 0) < x → x < rowMoment (rowAt rows last)
       → let b = halving rows x (bracket 0 last 0) in Around rows x (b .lower) × (b .upper ≡ b .lower + 1)
   found two h k = go (halving rows x (bracket 0 last 0)) (halving-spans rows x (length rows) (bracket 0 last 0) (record { apart = omega arith; within = omega arith; low = N.le-of-lt h; high = k }))
@@ -67,6 +68,7 @@ module _ (rows : List Row) (x : ℕ) where
           let e : b .upper ≡ b .lower + 1 = omega (arith, s .0 .apart, s .1) in
           (record { within = omega (arith, s .0 .within, s .0 .apart); low = s .0 .low; high = subst (λ (i : ℕ). x < rowMoment (rowAt rows i)) e (s .0 .high) }, e)
 
+  -- rows of the table
   pub lookup-within : 2 ≤ length rows → (lookupOf rows x .lower < length rows) × (lookupOf rows x .upper < length rows)
   lookup-within two =
       lookup-case (λ (b : Bracket). (b .lower < length rows) × (b .upper < length rows)) (λ h. (omega arith, omega arith)) (λ h k. (omega arith, omega arith))
