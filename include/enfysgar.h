@@ -378,12 +378,12 @@ uint32_t enfys_tt_to_utc(int64_t day, uint64_t micros, uint64_t *year,
 /*
  * Each number by itself
  *
- * Each call below gives one number of a whole answer above, for the same inputs.
- * Units, rules and refusals are those of the service. On a refusal the number is 0
- * (+0.0 for a double); the call of the group that ends in `_refusal` gives the
- * refusal number. The calls of a group always agree, with each other and with the
- * whole answer. Each computes the whole answer again: a caller who wants several
- * of its numbers uses the call above.
+ * Each call below, but for the two that end in `_probes`, gives one number of a
+ * whole answer above, for the same inputs. Units, rules and refusals are those of
+ * the service. On a refusal the number is 0 (+0.0 for a double); the call of the
+ * group that ends in `_refusal` gives the refusal number. The calls of a group
+ * always agree, with each other and with the whole answer. Each computes the whole
+ * answer again: a caller who wants several of its numbers uses the call above.
  */
 
 /* (a) The day number of a date, as in enfys_day_of_date. */

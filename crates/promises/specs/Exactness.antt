@@ -124,7 +124,7 @@ pub record Exactness : Type 0 where
   pub most-of-rows : (s : List ℕ) (p : ℕ) → (length s - 3) / 16 - 1 ≤ 2 ^ p → (d : ℤ) (m : ℕ) → probesRowsOf s d m ≤ p
   pub most-eight : (s : List ℕ) (d : ℤ) (m : ℕ) → probesRowsOf s d m ≤ 8
   -- there are such: at the first row's date and a microsecond later, a microsecond before the eighth row's date and at it, and so at the last row's date;
-  -- and eight among some two hundred rows
+  -- and eight in a table of two hundred rows
   pub some-probes : (probesOf (pos 45700) 0 ≡ 0) × (probesOf (pos 45700) 1 ≡ 4) × (probesOf (pos 48256) 86_399_999_999 ≡ 5) × (probesOf (pos 48257) 0 ≡ 4)
       × (probesOf (pos 56292) 86_399_999_999 ≡ 5) × (probesOf (pos 56293) 0 ≡ 0)
   pub some-eight : (s : List ℕ) × (d : ℤ) × (m : ℕ) × AcceptedBytes s × ((length s - 3) / 16 ≡ 200) × (probesRowsOf s d m ≡ 8)

@@ -45,7 +45,7 @@ probed : probesWith rows (pos 15385) 0 ≡ 8
 unfolding yearly lookupOf halving probing outside dayIndex
 probed = refl
 
--- PROMISE. Eight are probed at some instant among some two hundred rows.
+-- PROMISE. Eight are probed at some instant in a table of two hundred rows.
 pub some-eight : (s : List ℕ) × (d : ℤ) × (m : ℕ) × AcceptedBytes s × (rowCount (length s) ≡ 200) × (probesRowsOf s d m ≡ 8)
 some-eight =
     let s : List ℕ = tableBytes rows in
