@@ -4,6 +4,7 @@ mod clock_calls;
 mod nutation_calls;
 mod nutation_rows_calls;
 mod record_calls;
+mod rescue_calls;
 mod run_calls;
 mod tide_calls;
 mod utc_calls;
