@@ -1,6 +1,7 @@
 /*
  * Enfysgar: calendar, clock words, tidal phases, zonal-tide corrections,
- * free-core-nutation offsets, records, and UTC to TT and back, for a timing unit.
+ * free-core-nutation offsets, records and their rescue from a bad disk, and UTC to
+ * TT and back, for a timing unit.
  *
  * Include this header, and link libenfysgar.a and the mathematical library, which
  * has fmod:
@@ -11,8 +12,8 @@
  *
  * A call gives a whole answer: it returns the refusal number and, where that is 0,
  * writes every number of the answer through its pointers (two calls of (g) fill a
- * buffer). On a refusal it writes nothing. Each number can be asked for by itself
- * too: see the end of this header.
+ * buffer, and that of (i) two). On a refusal it writes nothing. Each number can be
+ * asked for by itself too: see the end of this header.
  *
  * A number that is a parameter may have any value; nothing has to be checked first,
  * and what cannot be answered is refused by a number (the table below). Pointers
@@ -21,10 +22,13 @@
  *   - A pointer through which a number is written is not NULL and is aligned for
  *     its type. No two of one call are alike or overlap, nor do they overlap the
  *     bytes that are lent to it. The numbers need no value before the call.
- *   - `buffer`, `bytes` and `rows` point to `length` bytes of the caller's memory.
- *     With length 0 the pointer is not used, and may be NULL.
+ *   - `buffer`, `bytes` and `rows` point to `length` bytes of the caller's memory;
+ *     `input`, `records` and `ranges` of (i) to as many as the length behind each
+ *     says. With length 0 the pointer is not used, and may be NULL. `records` and
+ *     `ranges` overlap neither each other nor the input.
  *   - During the call nothing else reads or writes what the call can write (the
- *     numbers, the buffer), nor writes what it reads (the bytes, the rows).
+ *     numbers, the buffers), nor writes what it reads (the bytes, the rows, the
+ *     input).
  *
  * No call keeps anything between two calls, allocates memory, or reads or writes
  * anything but its arguments and what they point to, so any number of threads may
@@ -87,9 +91,9 @@ extern "C" {
  * used, since its arguments would be taken for others: compile it anew.
  */
 #define ENFYS_VERSION_MAJOR 2
-#define ENFYS_VERSION_MINOR 2
+#define ENFYS_VERSION_MINOR 3
 #define ENFYS_VERSION_PATCH 0
-#define ENFYS_VERSION_STRING "2.2.0"
+#define ENFYS_VERSION_STRING "2.3.0"
 
 /*
  * Refusal numbers. 0 is success. Where several apply, the first in the order
@@ -110,7 +114,8 @@ enum {
     ENFYS_MICROS = 9,          /* micros 86400000000 or more */
     ENFYS_WORDS_DISAGREE = 10, /* the marks of the two clock words disagree */
     ENFYS_MULTIPLIER = 11,     /* a Doodson multiplier outside -12..12 */
-    ENFYS_BUFFER_SHORT = 12,   /* buffer shorter than the answer, or than a record */
+    ENFYS_BUFFER_SHORT = 12,   /* a buffer shorter than its answer, or bytes than a
+                                  record */
     ENFYS_RECORD_LENGTH = 13,  /* length field of a record not 30 */
     ENFYS_RECORD_VERSION = 14, /* version byte of a record not 1 */
     ENFYS_RECORD_ZERO = 15,    /* byte 3 of a record not 0 */
@@ -125,8 +130,9 @@ enum {
     ENFYS_ROWS_VERSION = 22,   /* version byte of rows not 1 */
     ENFYS_ROWS_DAY = 23,       /* a row's day outside 15020..88433, or not after the
                                   day of the row before */
-    ENFYS_ROWS_SIZE = 24       /* a row's uncertainty outside 1..100000, or XC or XS
+    ENFYS_ROWS_SIZE = 24,      /* a row's uncertainty outside 1..100000, or XC or XS
                                   outside -100000..100000 */
+    ENFYS_RESCUE_LENGTH = 25   /* input of a rescue longer than 65536 bytes */
 };
 
 /* First and last accepted day, microseconds in a day, and the sizes of records. */
@@ -140,6 +146,15 @@ enum {
 #define ENFYS_ROWS_LEAST 2
 #define ENFYS_ROWS_MOST 200
 #define ENFYS_ROWS_BYTES(n) (3 + 16 * (n))
+
+/*
+ * A rescue: the longest input, the bytes of a range in the list, and the sizes of the
+ * two buffers that hold the answer to any input: 2184 records and 2115 ranges.
+ */
+#define ENFYS_RESCUE_MOST 65536
+#define ENFYS_RESCUE_RANGE_BYTES 8
+#define ENFYS_RESCUE_RECORDS_BYTES 65520
+#define ENFYS_RESCUE_RANGES_BYTES 16920
 
 /*
  * UTC days, as day numbers: the first, and that on which the list expires. Either
@@ -376,14 +391,43 @@ uint32_t enfys_tt_to_utc(int64_t day, uint64_t micros, uint64_t *year,
                          uint64_t *minute, uint64_t *second, uint64_t *microsecond);
 
 /*
+ * (i) Rescue of records from a bad disk: those that still read are kept, and the
+ * bytes between them are passed. The walk goes over the input from its first byte on.
+ * At each place, where the bytes from there on read as a record (those for which
+ * enfys_record_refusal is 0), it is kept and the walk goes on behind its 30 bytes.
+ * Where they do not, one byte is passed and the walk goes on behind it. With fewer
+ * than 30 bytes left nothing reads, and they are passed one after the other.
+ *
+ * The kept records are written to `records`, one behind the other, in their order and
+ * as they stand. The passed bytes are listed in `ranges`, in their order too; bytes
+ * that follow each other are one range, so that between two ranges there is a record.
+ * A range is eight bytes, each number with its high byte first:
+ *
+ *    0-3   start, the place of its first byte, counted from 0
+ *    4-7   length, in bytes, 1 or more
+ *
+ * Refused, in this order: 25 (input_length above 65536), 12 (records_length below 30
+ * times the number of kept records, or ranges_length below 8 times the number of
+ * ranges). Buffers of ENFYS_RESCUE_RECORDS_BYTES and ENFYS_RESCUE_RANGES_BYTES are
+ * never too short. On success no byte behind the answer has changed in either buffer;
+ * on a refusal no byte has. The input is only read.
+ *
+ * Which record a byte belongs to depends on where the walk began. A longer image is
+ * walked in windows, each from the first place that the one before could not decide,
+ * as examples/rescue_image.c of the source does.
+ */
+uint32_t enfys_rescue(const uint8_t *input, size_t input_length, uint8_t *records,
+                      size_t records_length, uint8_t *ranges, size_t ranges_length);
+
+/*
  * Each number by itself
  *
- * Each call below, but for the two that end in `_probes`, gives one number of a
- * whole answer above, for the same inputs. Units, rules and refusals are those of
- * the service. On a refusal the number is 0 (+0.0 for a double); the call of the
- * group that ends in `_refusal` gives the refusal number. The calls of a group
- * always agree, with each other and with the whole answer. Each computes the whole
- * answer again: a caller who wants several of its numbers uses the call above.
+ * Each call below, but for the two that end in `_probes` and those of (i), gives
+ * one number of a whole answer above, for the same inputs. Units, rules and refusals
+ * are those of the service. On a refusal the number is 0 (+0.0 for a double); the
+ * call of the group that ends in `_refusal` gives the refusal number. The calls of a
+ * group always agree, with each other and with the whole answer. Each computes the
+ * whole answer again: a caller who wants several of its numbers uses the call above.
  */
 
 /* (a) The day number of a date, as in enfys_day_of_date. */
@@ -498,6 +542,21 @@ uint64_t enfys_tt_to_utc_minute(int64_t day, uint64_t micros);
 uint64_t enfys_tt_to_utc_second(int64_t day, uint64_t micros);
 uint64_t enfys_tt_to_utc_microsecond(int64_t day, uint64_t micros);
 uint32_t enfys_tt_to_utc_refusal(int64_t day, uint64_t micros);
+
+/*
+ * (i) What enfys_rescue does with this input and buffers of these lengths, without
+ * the buffers: how many records it keeps, how many ranges it lists, how many bytes it
+ * passes (the sum of their lengths), and its refusal. Where that is 0, 30 times the
+ * kept records and the passed bytes are input_length.
+ */
+uint64_t enfys_rescue_kept(const uint8_t *input, size_t input_length,
+                           size_t records_length, size_t ranges_length);
+uint64_t enfys_rescue_ranges(const uint8_t *input, size_t input_length,
+                             size_t records_length, size_t ranges_length);
+uint64_t enfys_rescue_passed(const uint8_t *input, size_t input_length,
+                             size_t records_length, size_t ranges_length);
+uint32_t enfys_rescue_refusal(const uint8_t *input, size_t input_length,
+                              size_t records_length, size_t ranges_length);
 
 #ifdef __cplusplus
 }
