@@ -40,6 +40,7 @@ static const char *const meaning[] = {
     "version of the nutation rows not 1",
     "day of a nutation row out of its limits or not rising",
     "uncertainty or amplitude of a row out of its limits",
+    "more than 65536 bytes to rescue records from",
 };
 
 static const char *text(uint32_t refusal)
@@ -245,6 +246,7 @@ static void show_refusals_of_rows(void)
 /* A call for each refusal. */
 static void show_refusals(void)
 {
+    static const uint8_t image[ENFYS_RESCUE_MOST + 1];
     uint8_t record[ENFYS_RECORD_BYTES], run[ENFYS_RUN_RECORDS * ENFYS_RECORD_BYTES], damaged[4][ENFYS_RECORD_BYTES];
 
     enfys_record_write(54465, 0, 1, -1, 0, record, sizeof record);
@@ -276,6 +278,8 @@ static void show_refusals(void)
     show(enfys_utc_to_tt_refusal(1971, 12, 31, 23, 59, 59, 0), "UTC 1971-12-31 23:59:59");
     show(enfys_tt_to_utc_refusal(ENFYS_UTC_EXPIRY_DAY + 1, 0), "UTC of day 60855");
     show_refusals_of_rows();
+    show(enfys_rescue_refusal(image, sizeof image, ENFYS_RESCUE_RECORDS_BYTES, ENFYS_RESCUE_RANGES_BYTES),
+         "rescuing from 65537 bytes");
 }
 
 int main(int argc, char **argv)

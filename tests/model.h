@@ -36,6 +36,8 @@ extern int model_mistake;
 #define RUN_RECORDS 96
 #define LEAST_ROWS 2
 #define MOST_ROWS 200
+#define RESCUE_MOST 65536
+#define RANGE_BYTES 8
 
 struct date {
     uint64_t year, month, day;
@@ -49,6 +51,11 @@ struct instant {
 struct record {
     struct instant at;
     int32_t number[3]; /* UT1, length of day, rate */
+};
+
+/* Kept records, ranges of passed bytes, and passed bytes. */
+struct rescue {
+    uint64_t kept, ranges, passed;
 };
 
 /* A row of nutation amplitudes: the last three are in hundredths of a microarcsecond. */
@@ -101,5 +108,12 @@ uint32_t model_write(const struct record *record, uint8_t *buffer, size_t length
 uint32_t model_read(const uint8_t *bytes, size_t length, struct record *record);
 uint32_t model_run_refusal(struct instant start, uint64_t count, uint64_t step, size_t length);
 struct instant model_run_instant(struct instant start, uint64_t k, uint64_t step);
+
+/*
+ * Records rescued from any bytes: the refusal, the two buffers, and the numbers. A buffer that is NULL is not written,
+ * whatever its length (model_rescue.c).
+ */
+uint32_t model_rescue(const uint8_t *input, size_t length, uint8_t *records, size_t records_length, uint8_t *ranges,
+                      size_t ranges_length, struct rescue *rescue);
 
 #endif

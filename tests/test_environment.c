@@ -11,7 +11,7 @@
 #include <fenv.h>
 #include <xmmintrin.h>
 
-#define NUMBERS 106
+#define NUMBERS 112
 #define FLUSH_TO_ZERO 0x8040u /* of results and of operands */
 
 static const int directions[] = {FE_UPWARD, FE_DOWNWARD, FE_TOWARDZERO};
@@ -80,6 +80,26 @@ static int utc(int64_t day, uint64_t micros, uint64_t year, uint64_t month, uint
     return n;
 }
 
+/* What is rescued from a run's bytes without the first: a record that is cut and a whole one. Bytes are one sum. */
+static int rescued(const uint8_t *run, size_t length, uint64_t *number)
+{
+    uint8_t kept[2 * ENFYS_RECORD_BYTES] = {0}, ranges[2 * ENFYS_RESCUE_RANGE_BYTES] = {0};
+    uint64_t sum = 0;
+    int n = 0;
+
+    number[n++] = enfys_rescue(run + 1, length - 1, kept, sizeof kept, ranges, sizeof ranges);
+    for (size_t i = 0; i < sizeof kept; i++)
+        sum = sum * 257 + kept[i];
+    for (size_t i = 0; i < sizeof ranges; i++)
+        sum = sum * 257 + ranges[i];
+    number[n++] = sum;
+    number[n++] = enfys_rescue_kept(run + 1, length - 1, sizeof kept, sizeof ranges);
+    number[n++] = enfys_rescue_ranges(run + 1, length - 1, sizeof kept, sizeof ranges);
+    number[n++] = enfys_rescue_passed(run + 1, length - 1, sizeof kept, sizeof ranges);
+    number[n++] = enfys_rescue_refusal(run + 1, length - 1, sizeof kept, sizeof ranges);
+    return n;
+}
+
 /* The numbers of an instant, and how many there are. A run's records are taken as one sum. */
 static int answers(int64_t day, uint64_t micros, uint64_t number[NUMBERS])
 {
@@ -125,6 +145,7 @@ static int answers(int64_t day, uint64_t micros, uint64_t number[NUMBERS])
     number[n++] = (uint64_t)enfys_record_ut1(run, sizeof run) ^ (uint64_t)enfys_record_lod(run, sizeof run) << 20;
     number[n++] = (uint64_t)enfys_record_rate(run, sizeof run);
     number[n++] = enfys_record_refusal(run, sizeof run);
+    n += rescued(run, sizeof run, number + n);
     n += utc(day, micros, year, month, date, number + n);
     return n + whole_answers(day, micros, run, number + n);
 }

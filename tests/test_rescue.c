@@ -1,0 +1,316 @@
+/*
+ * Service (i): records rescued from any bytes. All five calls on every input, with buffers of the size that the answer
+ * needs and of others; both buffers are compared whole, with what lies beside them.
+ */
+#define _DEFAULT_SOURCE
+#include "../include/enfysgar.h"
+#include "check.h"
+#include "model.h"
+#include "rescue_inputs.h"
+
+#include <stdio.h>
+#include <sys/mman.h>
+
+#define GUARD 32
+#define FAR ((size_t)1 << 32)
+
+/* What is tried, for a message. */
+static const char *tried = "";
+
+/* Blocks for the input and the buffers. A front begins where unmapped memory ends, a back ends where it begins. */
+enum { INPUT, RECORDS, RANGES, BLOCKS };
+static uint8_t *front[BLOCKS], *back[BLOCKS], want[BLOCKS][LONGEST + GUARD];
+
+static unsigned refused[26];
+static uint64_t most_kept, most_ranges;
+
+#define SIZES "%s: input of %zu bytes, records of %zu, ranges of %zu", tried, length, sizes[RECORDS], sizes[RANGES]
+
+/* A slice of a block, and where what is compared begins: the slice, and guard bytes where memory is mapped. */
+static uint8_t *slice(int block, size_t size, int at_front, uint8_t **with_guard)
+{
+    uint8_t *at = at_front ? front[block] : back[block] + GUARD + LONGEST - size;
+
+    *with_guard = at_front ? at : at - GUARD;
+    return at;
+}
+
+/* Makes the five calls with buffers of these sizes, and compares every byte. The input's size is `length`. */
+static uint32_t compare(const size_t sizes[BLOCKS])
+{
+    uint8_t *lent[BLOCKS], *whole[BLOCKS], *wanted[BLOCKS];
+    struct rescue rescue;
+    uint32_t refusal;
+
+    for (int b = INPUT; b < BLOCKS; b++) {
+        int at_front = one_in(2);
+
+        lent[b] = slice(b, sizes[b], at_front, &whole[b]);
+        memcpy(whole[b], noise + below(LONGEST - GUARD), sizes[b] + GUARD);
+        if (b == INPUT)
+            memcpy(lent[b], bytes, length);
+        memcpy(want[b], whole[b], sizes[b] + GUARD);
+        wanted[b] = want[b] + (lent[b] - whole[b]);
+    }
+    refusal = model_rescue(bytes, length, wanted[RECORDS], sizes[RECORDS], wanted[RANGES], sizes[RANGES], &rescue);
+    SAME_U(enfys_rescue_refusal(lent[INPUT], length, sizes[RECORDS], sizes[RANGES]), refusal, SIZES);
+    SAME_U(enfys_rescue_kept(lent[INPUT], length, sizes[RECORDS], sizes[RANGES]), rescue.kept, SIZES);
+    SAME_U(enfys_rescue_ranges(lent[INPUT], length, sizes[RECORDS], sizes[RANGES]), rescue.ranges, SIZES);
+    SAME_U(enfys_rescue_passed(lent[INPUT], length, sizes[RECORDS], sizes[RANGES]), rescue.passed, SIZES);
+    SAME_U(enfys_rescue(lent[INPUT], length, lent[RECORDS], sizes[RECORDS], lent[RANGES], sizes[RANGES]), refusal,
+           SIZES);
+    for (int b = INPUT; b < BLOCKS; b++)
+        for (size_t i = 0; memcmp(whole[b], want[b], sizes[b] + GUARD) != 0; i++)
+            if (whole[b][i] != want[b][i])
+                differs(b == INPUT     ? "enfys_rescue, its input"
+                        : b == RECORDS ? "enfys_rescue, the records"
+                                       : "enfys_rescue, the ranges",
+                        text_u64(whole[b][i]), text_u64(want[b][i]),
+                        "byte %td, %s: input of %zu bytes, buffers %zu, %zu", whole[b] + i - lent[b], tried, length,
+                        sizes[RECORDS], sizes[RANGES]);
+    refused[refusal]++;
+    most_kept = rescue.kept > most_kept ? rescue.kept : most_kept;
+    most_ranges = rescue.ranges > most_ranges ? rescue.ranges : most_ranges;
+    return refusal;
+}
+
+static size_t near(size_t need)
+{
+    switch (below(8)) {
+    case 0:
+        return 0;
+    case 1:
+        return below(need + 1);
+    case 2:
+        return need + 1;
+    case 3:
+        return need + below(100);
+    case 4:
+        return 65536 + below(need + 1); /* enough; its two low bytes by themselves may not be */
+    case 5:
+        return need - (need > 0);
+    default:
+        return need;
+    }
+}
+
+/* Tries the input with buffers of just the sizes that it needs, with either or both a byte shorter, and `more` others.
+ */
+static void each(const char *what, int more)
+{
+    struct rescue rescue;
+    size_t sizes[BLOCKS] = {length, ENFYS_RESCUE_RECORDS_BYTES, ENFYS_RESCUE_RANGES_BYTES};
+    size_t records, ranges;
+
+    tried = what;
+    if (model_rescue(bytes, length, NULL, sizes[RECORDS], NULL, sizes[RANGES], &rescue) == 12)
+        differs("the model", "12", "another number", SIZES);
+    records = RECORD_BYTES * (size_t)rescue.kept, ranges = RANGE_BYTES * (size_t)rescue.ranges;
+    for (int shorter = 0; shorter < 4; shorter++) {
+        sizes[RECORDS] = records - (shorter & 1 && records > 0);
+        sizes[RANGES] = ranges - (shorter & 2 && ranges > 0);
+        compare(sizes);
+    }
+    for (int i = 0; i < more; i++) {
+        sizes[RECORDS] = near(records), sizes[RANGES] = near(ranges);
+        compare(sizes);
+        /* without the buffers, their lengths may be any */
+        sizes[RECORDS] = one_in(2) ? (size_t)edge() : near(records);
+        sizes[RANGES] = one_in(2) ? (size_t)edge() : near(ranges);
+        SAME_U(enfys_rescue_refusal(bytes, length, sizes[RECORDS], sizes[RANGES]),
+               model_rescue(bytes, length, NULL, sizes[RECORDS], NULL, sizes[RANGES], &rescue), SIZES);
+        SAME_U(enfys_rescue_kept(bytes, length, sizes[RECORDS], sizes[RANGES]), rescue.kept, SIZES);
+        SAME_U(enfys_rescue_ranges(bytes, length, sizes[RECORDS], sizes[RANGES]), rescue.ranges, SIZES);
+        SAME_U(enfys_rescue_passed(bytes, length, sizes[RECORDS], sizes[RANGES]), rescue.passed, SIZES);
+    }
+}
+
+/* A record in the middle: with each bit changed, each length of gap before and behind it, and cut everywhere. */
+static void around_a_record(void)
+{
+    for (size_t bit = 0; bit < 8 * RECORD_BYTES; bit++) {
+        length = 0;
+        add_record();
+        add_record();
+        add_record();
+        bytes[RECORD_BYTES + bit / 8] ^= (uint8_t)(1u << bit % 8);
+        each("a record with a changed bit between two others", 1);
+    }
+    for (size_t gap = 0; gap <= 40; gap++)
+        for (int kind = 0; kind < 4; kind++) {
+            length = 0;
+            for (int i = 0; i < 4; i++) {
+                add_record();
+                (kind < 3 && gap < RECORD_BYTES && one_in(3) ? add_cut : kind % 2 == 0 ? add_noise : add_zeros)(gap);
+            }
+            add_record();
+            each("records with gaps of one length", 3);
+        }
+    for (size_t size = 0; size <= RECORD_BYTES; size++)
+        for (int more = 0; more < 2; more++) {
+            length = 0;
+            add_cut(size);
+            add_record();
+            add_cut(size);
+            if (more)
+                add_record();
+            each("cut records", 3);
+        }
+}
+
+/* Records inside which another begins, with the first as it is and damaged before the second. */
+static void overlaps(void)
+{
+    for (size_t apart = 11; apart < RECORD_BYTES; apart++)
+        for (int kind = 0; kind < 6; kind++) {
+            length = 0;
+            if (kind % 3 == 0)
+                add_noise(below(40));
+            if (!add_overlapping(apart))
+                differs("the maker of inputs", "nothing", "two records that overlap", "%zu bytes apart", apart);
+            if (kind < 3)
+                bytes[length - RECORD_BYTES - apart + below(4)] ^= 1;
+            if (kind % 3 == 1)
+                add_record();
+            each("records that overlap", 3);
+        }
+}
+
+/* Every short length, and random inputs. */
+static void short_inputs(void)
+{
+    for (size_t size = 0; size <= 100; size++)
+        for (int kind = 0; kind < 6; kind++) {
+            length = 0;
+            if (kind < 2)
+                (kind == 0 ? add_noise : add_zeros)(size);
+            while (length < size)
+                (kind == 2 ? add_record : add_any)();
+            length = size;
+            each("a short input", 2);
+        }
+    for (int i = 0; i < 1500; i++) {
+        size_t most = one_in(4) ? 3000 : 400;
+
+        length = 0;
+        while (length < most && !one_in(20))
+            add_any();
+        each("pieces of all kinds", 3);
+    }
+}
+
+/* Inputs of this length: noise, zeros, clean and damaged records, as many ranges as there can be, and a mix. */
+static void long_inputs(size_t size, int more)
+{
+    for (int kind = 0; kind < 6; kind++) {
+        length = 0;
+        if (kind < 2)
+            (kind == 0 ? add_noise : add_zeros)(size);
+        while (length < size && kind == 5)
+            add_any();
+        while (length < size) {
+            if (kind == 3)
+                add_zeros(1);
+            if (kind == 4 && one_in(10))
+                add_damaged();
+            else
+                add_record();
+        }
+        length = size;
+        each("a long input", more);
+        if (kind < 2 && one_in(2)) { /* a record in the last bytes, and one that ends a byte later */
+            length = size - RECORD_BYTES;
+            add_record();
+            each("a record at the end", 1);
+            memmove(bytes + size - RECORD_BYTES + 1, bytes + size - RECORD_BYTES, RECORD_BYTES - 1);
+            each("a record beyond the end", 0);
+        }
+    }
+}
+
+/* Far more bytes than are accepted, most of them never looked at: also where the low bytes of the length are small. */
+static void far_above(void)
+{
+    static const size_t over[] = {0, 30, 60, RESCUE_MOST, RESCUE_MOST + 1};
+    uint8_t *many = mmap(NULL, FAR + 2 * RESCUE_MOST, PROT_READ, MAP_PRIVATE | MAP_ANONYMOUS | MAP_NORESERVE, -1, 0);
+    size_t sizes[BLOCKS] = {0, 60, 60};
+    struct rescue rescue;
+
+    if (many == MAP_FAILED) {
+        perror("mmap");
+        return;
+    }
+    tried = "far too many bytes";
+    memcpy(want[RECORDS], noise, 60);
+    for (size_t i = 0; i < sizeof over / sizeof *over; i++) {
+        length = FAR + over[i];
+        memcpy(want[RANGES], noise, 60);
+        SAME_U(enfys_rescue_refusal(many, length, 60, 60), model_rescue(many, length, NULL, 60, NULL, 60, &rescue),
+               SIZES);
+        SAME_U(enfys_rescue(many, length, want[RECORDS], 60, want[RANGES], 60), 25, SIZES);
+        SAME_U(memcmp(want[RECORDS], noise, 60) | memcmp(want[RANGES], noise, 60), 0, SIZES);
+        SAME_U(enfys_rescue_kept(many, length, 60, 60), rescue.kept, SIZES);
+        SAME_U(enfys_rescue_ranges(many, length, 60, 60), rescue.ranges, SIZES);
+        SAME_U(enfys_rescue_passed(many, length, 60, 60), rescue.passed, SIZES);
+    }
+    munmap(many, FAR + 2 * RESCUE_MOST);
+}
+
+/* The record of day 54465 behind three bytes and before two, with every number and byte written out here. */
+static void by_hand(void)
+{
+    static const uint8_t record[RECORD_BYTES] = {
+        0x00, 0x1E, 0x01, 0x00, 0x00, 0x00, 0xD4, 0xC1, 0x00, 0x00, 0x00, 0x20, 0x00, 0x00, 0x00,
+        0x00, 0x00, 0x00, 0x00, 0x01, 0xFF, 0xFF, 0xFF, 0xFF, 0x00, 0x00, 0x00, 0x00, 0x2A, 0x02,
+    };
+    static const uint8_t list[16] = {0, 0, 0, 0, 0, 0, 0, 3, 0, 0, 0, 33, 0, 0, 0, 2};
+    uint8_t records[RECORD_BYTES] = {0}, ranges[16] = {0};
+
+    SAME_U(enfys_rescue(NULL, 0, NULL, 0, NULL, 0), 0, "no bytes");
+    SAME_U(enfys_rescue_refusal(NULL, 0, 0, 0), 0, "no bytes");
+    SAME_U(enfys_rescue_kept(NULL, 0, 0, 0) + enfys_rescue_ranges(NULL, 0, 0, 0) + enfys_rescue_passed(NULL, 0, 0, 0),
+           0, "no bytes");
+    SAME_U(enfys_rescue(record, 30, records, 30, NULL, 0), 0, "no ranges, and no room for them");
+    SAME_U(enfys_rescue(record, 29, NULL, 0, ranges, 8), 0, "no records, and no room for them");
+    SAME_U(enfys_rescue(record, 30, NULL, 0, ranges, 8), 12, "no room for the record");
+    SAME_U(enfys_rescue(record, 29, records, 30, NULL, 0), 12, "no room for the range");
+    length = 0;
+    add("\x00\x1e\x01", 3);
+    add(record, RECORD_BYTES);
+    add("\x00\x1e", 2);
+    SAME_U(enfys_rescue(bytes, length, records, 29, ranges, 16), 12, "a byte too few for the record");
+    SAME_U(enfys_rescue(bytes, length, records, 30, ranges, 15), 12, "a byte too few for the ranges");
+    SAME_U(enfys_rescue(bytes, length, records, 30, ranges, 16), 0, "the record of day 54465");
+    SAME_U(memcmp(records, record, 30) | memcmp(ranges, list, 16), 0, "the record of day 54465: its bytes");
+    SAME_U(enfys_rescue_kept(bytes, length, 30, 16), 1, "the record of day 54465");
+    SAME_U(enfys_rescue_ranges(bytes, length, 30, 16), 2, "the record of day 54465");
+    SAME_U(enfys_rescue_passed(bytes, length, 30, 16), 5, "the record of day 54465");
+}
+
+int main(int argc, char **argv)
+{
+    static const size_t sizes[] = {RESCUE_MOST - 16, RESCUE_MOST - 1, RESCUE_MOST};
+    static const size_t above[] = {RESCUE_MOST + 1, RESCUE_MOST + 2, RESCUE_MOST + 30, 2 * RESCUE_MOST, LONGEST - 100};
+
+    begin("rescue", argc, argv);
+    make_noise();
+    for (int b = INPUT; b < BLOCKS; b++) {
+        front[b] = lent_behind(LONGEST + GUARD);
+        back[b] = lent(LONGEST + GUARD);
+    }
+    by_hand();
+    around_a_record();
+    overlaps();
+    far_above();
+    for (size_t i = 0; i < sizeof sizes / sizeof *sizes; i++)
+        long_inputs(sizes[i], 3);
+    for (size_t i = 0; i < sizeof above / sizeof *above; i++)
+        long_inputs(above[i], 3);
+    short_inputs();
+    for (int n = 0; n < 26; n++)
+        if (n == 0 || n == 12 || n == 25 ? refused[n] < 100 : refused[n] > 0)
+            differs("the inputs", text_u64(refused[n]), "100 or more of 0, 12 and 25", "refusal %d", n);
+    SAME_U(most_kept, ENFYS_RESCUE_RECORDS_BYTES / RECORD_BYTES, "the most records");
+    SAME_U(most_ranges, ENFYS_RESCUE_RANGES_BYTES / RANGE_BYTES, "the most ranges");
+    return end(NULL);
+}
