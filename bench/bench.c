@@ -1,7 +1,8 @@
 /*
  * Times the library's calls beside plain C (tests/model*.c, with libm's sine and cosine, plain.h for dates,
- * UTC and phases, plain_rows.h for nutation rows), and beside ERFA where it is installed (WITH_ERFA), in one process on
- * the same inputs. A row whose ratio is above the most that is allowed for it is marked, and the status is 1.
+ * UTC and phases, plain_rows.h for nutation rows, plain_rescue.h for the rescue of records), and beside ERFA where it
+ * is installed (WITH_ERFA), in one process on the same inputs. A row whose ratio is above the most that is allowed for
+ * it is marked, and the status is 1.
  */
 #define _POSIX_C_SOURCE 199309L
 #include "work.h"
@@ -38,39 +39,47 @@ static double time_of(work *w, int batch)
     return (end - start) / batch;
 }
 
-/* What is compared, with the most that the ratio may be (0 for any), and the best times so far. */
+/*
+ * What is compared, with the most that the ratio may be (0 for any), the bytes that it goes over (0 where there are
+ * none to speak of), and the best times so far.
+ */
 static struct row {
     const char *what;
     work *ours, *other;
-    double most, best_ours, best_other;
+    double most, bytes, best_ours, best_other;
 } rows[] = {
-    {"three corrections", corrections, corrections_plain, 0.45, 0, 0},
-    {"both offsets and the uncertainty, against two", offsets, offsets_plain, 1.9, 0, 0},
-    {"the same, all between the rows", offsets_inside, offsets_inside_plain, 0, 0, 0},
-    {"between the rows, one after the other", offsets_onward, offsets_onward_plain, 0, 0, 0},
-    {"both with 30 rows from bytes", offsets_30, offsets_30_plain, 1.5, 0, 0},
-    {"with 200 rows from bytes", offsets_200, offsets_200_plain, 1.8, 0, 0},
-    {"with 30 rows, against our built-in ones", offsets_30, offsets, 0, 0, 0},
-    {"with 200 rows, against our built-in ones", offsets_200, offsets, 0, 0, 0},
-    {"probes of the built-in rows", probes, probes_plain, 0, 0, 0},
-    {"probes of 200 rows from bytes", probes_200, probes_200_plain, 1.8, 0, 0},
-    {"day to date", date, date_plain, 1.1, 0, 0},
-    {"4096 days in a row to dates", dates, dates_plain, 1.2, 0, 0},
-    {"record read", read_back, read_back_plain, 0.8, 0, 0},
+    {"three corrections", corrections, corrections_plain, 0.45, 0, 0, 0},
+    {"both offsets and the uncertainty, against two", offsets, offsets_plain, 1.9, 0, 0, 0},
+    {"the same, all between the rows", offsets_inside, offsets_inside_plain, 0, 0, 0, 0},
+    {"between the rows, one after the other", offsets_onward, offsets_onward_plain, 0, 0, 0, 0},
+    {"both with 30 rows from bytes", offsets_30, offsets_30_plain, 1.5, 0, 0, 0},
+    {"with 200 rows from bytes", offsets_200, offsets_200_plain, 1.8, 0, 0, 0},
+    {"with 30 rows, against our built-in ones", offsets_30, offsets, 0, 0, 0, 0},
+    {"with 200 rows, against our built-in ones", offsets_200, offsets, 0, 0, 0, 0},
+    {"probes of the built-in rows", probes, probes_plain, 0, 0, 0, 0},
+    {"probes of 200 rows from bytes", probes_200, probes_200_plain, 1.8, 0, 0, 0},
+    {"day to date", date, date_plain, 1.1, 0, 0, 0},
+    {"4096 days in a row to dates", dates, dates_plain, 1.2, 0, 0, 0},
+    {"record read", read_back, read_back_plain, 0.8, 0, 0, 0},
 #ifdef WITH_ERFA
-    {"day to date, against ERFA's eraJd2cal", date, date_erfa, 0.6, 0, 0},
-    {"4096 days in a row, against ERFA's eraJd2cal", dates, dates_erfa, 0, 0, 0},
-    {"UTC to TT, against ERFA", utc_to_tt, utc_to_tt_erfa, 0.12, 0, 0},
-    {"TT to UTC, against ERFA", tt_to_utc, tt_to_utc_erfa, 0.06, 0, 0},
+    {"day to date, against ERFA's eraJd2cal", date, date_erfa, 0.6, 0, 0, 0},
+    {"4096 days in a row, against ERFA's eraJd2cal", dates, dates_erfa, 0, 0, 0, 0},
+    {"UTC to TT, against ERFA", utc_to_tt, utc_to_tt_erfa, 0.12, 0, 0, 0},
+    {"TT to UTC, against ERFA", tt_to_utc, tt_to_utc_erfa, 0.06, 0, 0, 0},
 #endif
-    {"UTC to TT", utc_to_tt, utc_to_tt_plain, 1.4, 0, 0},
-    {"TT to UTC", tt_to_utc, tt_to_utc_plain, 0.95, 0, 0},
-    {"frequency and phase, from UTC", constituent, constituent_plain, 0, 0, 0},
-    {"record written", written, written_plain, 0, 0, 0},
-    {"run of 96 records", run_96, run_96_plain, 0, 0, 0},
-    {"phase alone, from UTC", phase, phase_plain, 1.3, 0, 0},
-    {"UT1 alone, against three sums", ut1, corrections_plain, 0, 0, 0},
-    {"year alone, against a date", year, date_plain, 0, 0, 0},
+    {"UTC to TT", utc_to_tt, utc_to_tt_plain, 1.4, 0, 0, 0},
+    {"TT to UTC", tt_to_utc, tt_to_utc_plain, 0.95, 0, 0, 0},
+    {"frequency and phase, from UTC", constituent, constituent_plain, 0, 0, 0, 0},
+    {"record written", written, written_plain, 0, 0, 0, 0},
+    {"run of 96 records", run_96, run_96_plain, 0, 0, 0, 0},
+    {"phase alone, from UTC", phase, phase_plain, 1.3, 0, 0, 0},
+    {"UT1 alone, against three sums", ut1, corrections_plain, 0, 0, 0, 0},
+    {"year alone, against a date", year, date_plain, 0, 0, 0, 0},
+    {"rescue: 2184 clean records", rescue_clean, rescue_clean_plain, 1.5, CLEAN_BYTES, 0, 0},
+    {"rescue: one record in ten damaged", rescue_damaged, rescue_damaged_plain, 2.5, CLEAN_BYTES, 0, 0},
+    {"rescue: 65536 bytes of noise", rescue_noise, rescue_noise_plain, 0, ENFYS_RESCUE_MOST, 0, 0},
+    {"rescue: damaged, against one by memchr", rescue_damaged, rescue_damaged_memchr, 0, CLEAN_BYTES, 0, 0},
+    {"rescue: noise, against one by memchr", rescue_noise, rescue_noise_memchr, 0, ENFYS_RESCUE_MOST, 0, 0},
 };
 
 #define ROWS (sizeof rows / sizeof *rows)
@@ -127,9 +136,30 @@ static void make_rows(void)
     pack(rows_200, row, 200);
 }
 
+/* The images that records are rescued from. */
+static void make_images(void)
+{
+    for (int n = 0; n < IMAGES; n++) {
+        for (int i = 0; i < CLEAN_BYTES / RECORD_BYTES; i++) {
+            struct record r = {{(int64_t)(16000 + next() % 72000), next() % 86400000000}, {0, 0, 0}};
+
+            for (int k = 0; k < 3; k++)
+                r.number[k] = (int32_t)(next() % 200000000) - 100000000;
+            model_write(&r, clean[n] + RECORD_BYTES * i, RECORD_BYTES);
+        }
+        memcpy(damaged[n], clean[n], CLEAN_BYTES);
+        for (int i = 0; i < CLEAN_BYTES / RECORD_BYTES; i++)
+            if (next() % 10 == 0)
+                damaged[n][RECORD_BYTES * i + (int)(next() % RECORD_BYTES)] ^= (uint8_t)(1 + next() % 255);
+        for (int i = 0; i < ENFYS_RESCUE_MOST; i++)
+            noise[n][i] = (uint8_t)(next() >> 56);
+    }
+}
+
 static void make_inputs(void)
 {
     make_rows();
+    make_images();
     for (int i = 0; i < INPUTS; i++) {
         at[i] = (struct instant){(int64_t)(16000 + next() % 72000), next() % 86400000000};
         inside[i] = (struct instant){(int64_t)(45700 + next() % 10593), next() % 86400000000};
@@ -187,6 +217,46 @@ static int same_rows(uint8_t *rows, size_t length, int i)
     return same;
 }
 
+/* Whether the library and either of plain_rescue.h rescue the same, to the last byte of buffers of these sizes. */
+static int same_rescue(const uint8_t *image, size_t length, size_t records_length, size_t ranges_length)
+{
+    static rescue_call *const call[3] = {enfys_rescue, rescue_plain, rescue_plain_memchr};
+    static uint8_t records[3][sizeof kept], list[3][sizeof ranges];
+    uint32_t refusal[3];
+    int same = 1;
+
+    for (int i = 0; i < 3; i++) {
+        memset(records[i], 1, sizeof kept);
+        memset(list[i], 2, sizeof ranges);
+        refusal[i] = call[i](image, length, records[i], records_length, list[i], ranges_length);
+        same &= refusal[i] == refusal[0] && memcmp(records[i], records[0], sizeof kept) == 0 &&
+                memcmp(list[i], list[0], sizeof ranges) == 0;
+    }
+    return same;
+}
+
+/* The same for all images and their ends, for damage everywhere in three records, and for what is refused. */
+static int same_rescues(void)
+{
+    uint8_t few[4 * RECORD_BYTES];
+    int wrong = 0;
+
+    for (int n = 0; n < IMAGES; n++)
+        for (size_t from = 0; from < 64; from++) {
+            wrong += !same_rescue(clean[n] + from, CLEAN_BYTES - from, sizeof kept, sizeof ranges);
+            wrong += !same_rescue(damaged[n] + from, CLEAN_BYTES - 7 * from, sizeof kept, sizeof ranges);
+            wrong += !same_rescue(noise[n] + from, ENFYS_RESCUE_MOST - from, sizeof kept, sizeof ranges);
+            wrong += !same_rescue(damaged[n], from * 30, from * 27, from * 2);
+        }
+    for (size_t i = 0; i < 20000; i++) {
+        memcpy(few, clean[i % IMAGES] + 30 * (next() % 2000), sizeof few);
+        few[next() % sizeof few] ^= (uint8_t)(1 << next() % 8);
+        wrong += !same_rescue(few, sizeof few - next() % 40, sizeof few - next() % 40, 24 - next() % 16);
+    }
+    wrong += !same_rescue((const uint8_t *)clean, ENFYS_RESCUE_MOST + 1, sizeof kept, sizeof ranges);
+    return wrong == 0;
+}
+
 /* Whether what is timed answers right: at the inputs, for dates on every day, and for UTC around the steps as well. */
 static int right(void)
 {
@@ -208,7 +278,17 @@ static int right(void)
     for (int i = 0; i < STEPS; i++)
         for (uint64_t micros = 0; micros < 100000000; micros += 500000)
             wrong += !same_utc((struct instant){step_day[i], micros}) || !same_utc((struct instant){EXPIRY, micros});
-    return wrong == 0;
+    return wrong == 0 && same_rescues();
+}
+
+/* Of the rows that go over bytes, how many each side does in a second. */
+static void show_rates(void)
+{
+    printf("\n%-46s %10s %10s\n", "", "ours, MB/s", "other");
+    for (size_t i = 0; i < ROWS; i++)
+        if (rows[i].bytes > 0)
+            printf("%-46s %10.0f %10.0f\n", rows[i].what, rows[i].bytes / rows[i].best_ours * 1e3,
+                   rows[i].bytes / rows[i].best_other * 1e3);
 }
 
 int main(void)
@@ -234,6 +314,7 @@ int main(void)
         printf("\n");
         above += rows[i].most > 0 && ratio > rows[i].most;
     }
+    show_rates();
 #ifndef WITH_ERFA
     printf("ERFA is not installed (Debian: liberfa-dev): nothing was compared with it\n");
 #endif

@@ -6,6 +6,7 @@
 #include "../tests/model.h"
 #include "plain.h"
 #include "plain_rows.h"
+#include "work_rescue.h"
 
 #ifdef WITH_ERFA
 #include <erfa.h>
