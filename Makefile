@@ -2,9 +2,9 @@
 #
 #   make demo                a day of corrections, readable
 #   make test                the whole gate
-#   make examples            the example daemon, and nutation rows from a file, held to their stored output
+#   make examples            the example daemon, nutation rows from a file, and a rescue from an image, held to their stored output
 #   make bench               times against plain C, and ERFA where it is installed; status 1 above a limit
-#   make install PREFIX=..   header, archive, program, the tool enfysgar-rows with an example, pkg-config file, manual pages, notice,
+#   make install PREFIX=..   header, archive, programs, the tool enfysgar-rows with an example, pkg-config file, manual pages, notice,
 #                            licence, rules, differences, changes and the source of the routines; PREFIX has no spaces
 #   make version             the version, which the header has too
 #   make lint                the layout of the C files, where clang-format is installed
@@ -19,6 +19,7 @@ DAY ?= 2007 12 31 96 900
 
 ARCHIVE = target/staticlib/libenfysgar.a
 PROGRAM = target/bin/run_day
+RESCUE = target/bin/rescue_records
 CRATES = crates.txt $(shell find crates -name '*.rt' -o -name '*.antt')
 
 # what is installed of the source: the code and its definitions
@@ -32,13 +33,16 @@ C_FILES = $(wildcard include/*.h tests/*.c tests/*.h examples/*.c bench/*.c benc
 all: archive program
 
 archive: $(ARCHIVE)
-program: $(PROGRAM)
+program: $(PROGRAM) $(RESCUE)
 
 $(ARCHIVE): $(CRATES)
 	$(RT) staticlib enfysgar
 
 $(PROGRAM): $(CRATES)
 	$(RT) check run_day
+
+$(RESCUE): $(CRATES)
+	$(RT) check rescue_records
 
 build/examples/%: examples/%.c include/enfysgar.h $(ARCHIVE)
 	@mkdir -p build/examples
@@ -51,15 +55,32 @@ build/examples/built_in_rows.bin: examples/built_in_rows.txt tools/rows
 	@mkdir -p build/examples
 	tools/rows pack examples/built_in_rows.txt -o $@
 
+# An image for rescue_image, which is longer than a window: two records, a sector of zeros, one that is cut and one that is not, and one
+# that begins ten bytes before the end of the first window. The record is that of day 54465 with the numbers 1, -1 and 0.
+RECORD = \000\036\001\000\000\000\324\301\000\000\000\040\000\000\000\000\000\000\000\001\377\377\377\377\000\000\000\000\052\002
+
+build/examples/image.bin: Makefile
+	@mkdir -p build/examples
+	{ printf '$(RECORD)$(RECORD)'; head -c 512 /dev/zero; printf '$(RECORD)' | head -c 20; printf '$(RECORD)'; \
+	    head -c 64904 /dev/zero; printf '$(RECORD)'; head -c 5 /dev/zero; } >$@
+
 # nutation_rows: within the rows, after the last, and for a file that has no rows, where its status is 1
-examples: build/examples/daemon build/examples/show_records build/examples/nutation_rows build/examples/built_in_rows.bin
+# rescue_image: an image, its records themselves, and an image that is missing, where its status is 1
+examples: build/examples/daemon build/examples/show_records build/examples/nutation_rows build/examples/built_in_rows.bin \
+    build/examples/rescue_image build/examples/image.bin
 	build/examples/daemon >build/examples/daemon.out
 	diff -u examples/daemon.expected build/examples/daemon.out
 	build/examples/nutation_rows build/examples/built_in_rows.bin 54466 1 >build/examples/nutation_rows.out
 	build/examples/nutation_rows build/examples/built_in_rows.bin 61360 43200000000 >>build/examples/nutation_rows.out
 	! build/examples/nutation_rows examples/built_in_rows.txt 54466 1 >>build/examples/nutation_rows.out
 	diff -u examples/nutation_rows.expected build/examples/nutation_rows.out
-	@echo "examples: the daemon and nutation_rows wrote what they should"
+	build/examples/rescue_image build/examples/image.bin build/examples/rescued.bin >build/examples/rescue_image.out
+	build/examples/rescue_image - build/examples/again.bin <build/examples/rescued.bin >>build/examples/rescue_image.out
+	! build/examples/rescue_image build/examples/missing build/examples/none.bin 2>>build/examples/rescue_image.out
+	diff -u examples/rescue_image.expected build/examples/rescue_image.out
+	cmp build/examples/rescued.bin build/examples/again.bin
+	build/examples/show_records <build/examples/rescued.bin >/dev/null
+	@echo "examples: the daemon, nutation_rows and rescue_image wrote what they should"
 
 bench: $(ARCHIVE)
 	bench/run
@@ -67,14 +88,14 @@ bench: $(ARCHIVE)
 test:
 	.ci/run
 
-install: $(ARCHIVE) $(PROGRAM)
+install: $(ARCHIVE) $(PROGRAM) $(RESCUE)
 	install -d $(DESTDIR)$(PREFIX)/include $(DESTDIR)$(PREFIX)/lib/pkgconfig $(DESTDIR)$(PREFIX)/bin \
 	    $(DESTDIR)$(PREFIX)/share/man/man1 $(DOC) $(DESTDIR)$(PREFIX)/share/enfysgar
 	install -m 644 include/enfysgar.h $(DESTDIR)$(PREFIX)/include/
 	install -m 644 $(ARCHIVE) $(DESTDIR)$(PREFIX)/lib/
-	install -m 755 $(PROGRAM) $(DESTDIR)$(PREFIX)/bin/
+	install -m 755 $(PROGRAM) $(RESCUE) $(DESTDIR)$(PREFIX)/bin/
 	install -m 755 tools/rows $(DESTDIR)$(PREFIX)/bin/enfysgar-rows
-	install -m 644 packaging/run_day.1 packaging/enfysgar-rows.1 $(DESTDIR)$(PREFIX)/share/man/man1/
+	install -m 644 packaging/run_day.1 packaging/rescue_records.1 packaging/enfysgar-rows.1 $(DESTDIR)$(PREFIX)/share/man/man1/
 	install -m 644 NOTICE LICENSE CHANGELOG.md docs/DIFFERENCES.md docs/RULES.md $(DOC)/
 	install -d $(DOC)/examples
 	install -m 644 examples/built_in_rows.txt $(DOC)/examples/
