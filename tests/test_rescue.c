@@ -35,45 +35,45 @@ static uint8_t *slice(int block, size_t size, int at_front, uint8_t **with_guard
     return at;
 }
 
-/* Makes the five calls with buffers of these sizes, and compares every byte. The input's size is `length`. */
-static uint32_t compare(const size_t sizes[BLOCKS])
+/* Makes the five calls with an input and buffers of these sizes, and compares every byte. */
+static void compare(const size_t sizes[BLOCKS])
 {
-    uint8_t *lent[BLOCKS], *whole[BLOCKS], *wanted[BLOCKS];
+    uint8_t *given[BLOCKS], *area[BLOCKS], *wanted[BLOCKS];
     struct rescue rescue;
     uint32_t refusal;
 
     for (int b = INPUT; b < BLOCKS; b++) {
         int at_front = one_in(2);
 
-        lent[b] = slice(b, sizes[b], at_front, &whole[b]);
-        memcpy(whole[b], noise + below(LONGEST - GUARD), sizes[b] + GUARD);
+        given[b] = slice(b, sizes[b], at_front, &area[b]);
+        memcpy(area[b], noise + below(LONGEST - GUARD), sizes[b] + GUARD);
         if (b == INPUT)
-            memcpy(lent[b], bytes, length);
-        memcpy(want[b], whole[b], sizes[b] + GUARD);
-        wanted[b] = want[b] + (lent[b] - whole[b]);
+            memcpy(given[b], bytes, length);
+        memcpy(want[b], area[b], sizes[b] + GUARD);
+        wanted[b] = want[b] + (given[b] - area[b]);
     }
     refusal = model_rescue(bytes, length, wanted[RECORDS], sizes[RECORDS], wanted[RANGES], sizes[RANGES], &rescue);
-    SAME_U(enfys_rescue_refusal(lent[INPUT], length, sizes[RECORDS], sizes[RANGES]), refusal, SIZES);
-    SAME_U(enfys_rescue_kept(lent[INPUT], length, sizes[RECORDS], sizes[RANGES]), rescue.kept, SIZES);
-    SAME_U(enfys_rescue_ranges(lent[INPUT], length, sizes[RECORDS], sizes[RANGES]), rescue.ranges, SIZES);
-    SAME_U(enfys_rescue_passed(lent[INPUT], length, sizes[RECORDS], sizes[RANGES]), rescue.passed, SIZES);
-    SAME_U(enfys_rescue(lent[INPUT], length, lent[RECORDS], sizes[RECORDS], lent[RANGES], sizes[RANGES]), refusal,
+    SAME_U(enfys_rescue_refusal(given[INPUT], length, sizes[RECORDS], sizes[RANGES]), refusal, SIZES);
+    SAME_U(enfys_rescue_kept(given[INPUT], length, sizes[RECORDS], sizes[RANGES]), rescue.kept, SIZES);
+    SAME_U(enfys_rescue_ranges(given[INPUT], length, sizes[RECORDS], sizes[RANGES]), rescue.ranges, SIZES);
+    SAME_U(enfys_rescue_passed(given[INPUT], length, sizes[RECORDS], sizes[RANGES]), rescue.passed, SIZES);
+    SAME_U(enfys_rescue(given[INPUT], length, given[RECORDS], sizes[RECORDS], given[RANGES], sizes[RANGES]), refusal,
            SIZES);
     for (int b = INPUT; b < BLOCKS; b++)
-        for (size_t i = 0; memcmp(whole[b], want[b], sizes[b] + GUARD) != 0; i++)
-            if (whole[b][i] != want[b][i])
+        for (size_t i = 0; memcmp(area[b], want[b], sizes[b] + GUARD) != 0; i++)
+            if (area[b][i] != want[b][i])
                 differs(b == INPUT     ? "enfys_rescue, its input"
                         : b == RECORDS ? "enfys_rescue, the records"
                                        : "enfys_rescue, the ranges",
-                        text_u64(whole[b][i]), text_u64(want[b][i]),
-                        "byte %td, %s: input of %zu bytes, buffers %zu, %zu", whole[b] + i - lent[b], tried, length,
+                        text_u64(area[b][i]), text_u64(want[b][i]),
+                        "byte %td, %s: input of %zu bytes, buffers %zu, %zu", area[b] + i - given[b], tried, length,
                         sizes[RECORDS], sizes[RANGES]);
     refused[refusal]++;
     most_kept = rescue.kept > most_kept ? rescue.kept : most_kept;
     most_ranges = rescue.ranges > most_ranges ? rescue.ranges : most_ranges;
-    return refusal;
 }
 
+/* The size of a buffer that is long enough, or not, for so many bytes. */
 static size_t near(size_t need)
 {
     switch (below(8)) {
@@ -94,8 +94,7 @@ static size_t near(size_t need)
     }
 }
 
-/* Tries the input with buffers of just the sizes that it needs, with either or both a byte shorter, and `more` others.
- */
+/* Tries the input with buffers of the sizes that it needs, with one or both a byte shorter, and with `more` others. */
 static void each(const char *what, int more)
 {
     struct rescue rescue;
