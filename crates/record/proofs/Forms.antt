@@ -1,9 +1,10 @@
 -- Bytes are of the right form exactly when none of the cases of the form applies; then the cases of reading that are left are those of the clock words,
 -- so reading refuses or answers as joining the words does. Assumes nothing.
 use Prim.Native.Nat.{ℕ, _%_, _≤_}
-use mathlib.Core.Path.{_≡_, ap, _∙_}
+use mathlib.Core.Path.{_≡_, ap, sym, _∙_}
+use mathlib.Core.Bool.{false}
 use mathlib.Core.List.{List}
-use borrow.Author.Tests.{ltb-false, eqb-true, le-ltb, eq-eqb, not-false}
+use borrow.Author.Tests.{ltb-false, eqb-true, le-ltb, eq-eqb, ne-eqb, not-false}
 use lib.IntN.{ℤ, pos}
 use lib.ListN.{length}
 use Rattle.bigendian.specs.Numbers.{wordSum}
@@ -11,15 +12,15 @@ use Rattle.instants.specs.declared.Instant.{Instant}
 use Rattle.instants.specs.Refusals.{refusedOr}
 use Rattle.instants.specs.Instants.{instant}
 use Rattle.instants.proofs.Impossible.{impossible}
-use Rattle.instants.proofs.FirstRefusal.{NoneApplies, none-both, answered-none, none-answered, refused-alike, first-none}
+use Rattle.instants.proofs.FirstRefusal.{NoneApplies, none-both, answered-none, none-answered, refused-alike, refused-first, first-none}
 use Rattle.clock.specs.declared.JoinAnswer.the-variants.{Joined, NoJoin}
 use Rattle.clock.specs.Words.{markUnit, joinCases, joinOf}
 use Rattle.record.specs.declared.Record.{Record}
 use Rattle.record.specs.declared.ReadAnswer.the-variants.{IsRecord, NoRecord}
 use Rattle.bigendian.specs.Fields.{fieldAt}
 use Rattle.record.specs.Format.{recordLength, version, lengthField, versionField, zeroField, dayField, timeField}
-use Rattle.record.specs.Records.{recordWith, formCases, readCases, recordOf, readOf}
-use Rattle.record.specs.Inner.{formRefusal}
+use Rattle.record.specs.Records.{recordWith, headCases, formCases, readCases, recordOf, readOf, isRecord}
+use Rattle.record.specs.Inner.{headRefusal, formRefusal}
 
 -- bytes of the right form
 pub record Formed (s : List ℕ) : Type 0 where
@@ -68,6 +69,40 @@ was-read s r e =
       join = none-answered NoJoin (joinCases d t) _ (n .1);
       is = cc;
     }
+
+-- ---- the tests of the code
+
+module _ (s : List ℕ) where
+  -- a head that is refused
+  pub head-refused : (headRefusal s ≡ 0 → ⊥) → headRefusal s ≡ formRefusal s
+  unfolding headRefusal formRefusal
+  head-refused h = sym (refused-first (λ n. n) (headCases s) _ h)
+
+  -- without a head nothing reads
+  pub head-needed : (headRefusal s ≡ 0 → ⊥) → isRecord (readOf s) ≡ false
+  unfolding headRefusal readOf
+  head-needed h = ap isRecord (refused-first NoRecord (headCases s) _ h)
+
+  -- one that is not, and the sum behind it
+  module _ (e : headRefusal s ≡ 0) where
+    none : NoneApplies (headCases s)
+    unfolding headRefusal
+    none = first-none (headCases s) tt e
+
+    pub head-long : recordLength ≤ length s
+    head-long = ltb-false _ _ (none .0)
+
+    pub sum-refused : (wordSum s 15 % 0x1_0000 ≡ 0 → ⊥) → formRefusal s ≡ 16
+    unfolding formRefusal
+    sum-refused h = none-answered (λ n. n) (headCases s) _ none ∙ simp (ne-eqb _ _ h)
+
+    pub sum-needed : (wordSum s 15 % 0x1_0000 ≡ 0 → ⊥) → isRecord (readOf s) ≡ false
+    unfolding readOf
+    sum-needed h = let r : readOf s ≡ NoRecord 16 = none-answered NoRecord (headCases s) _ none ∙ simp (ne-eqb _ _ h) in ap isRecord r
+
+    pub form-accepted : wordSum s 15 % 0x1_0000 ≡ 0 → formRefusal s ≡ 0
+    unfolding formRefusal
+    form-accepted h = none-answered (λ n. n) (headCases s) _ none ∙ simp (eq-eqb _ _ h)
 
 -- what bytes of the right form give: the refusal of the clock words, or a record
 module _ (s : List ℕ) (e : formRefusal s ≡ 0) where

@@ -1,6 +1,6 @@
 -- Service (g): one record written, one read.
 use Prim.Native.Nat.{ℕ, _%_}
-use mathlib.Core.Bool.{not}
+use mathlib.Core.Bool.{Bool, true, false, not}
 use mathlib.Core.List.{List, [], _∷_, _++_}
 use lib.Dec.{eqb, ltb}
 use lib.IntN.{ℤ, pos}
@@ -42,15 +42,18 @@ written d m ut1 lod rate old =
 
 -- ---- reading
 
--- the refusals of the bytes' form
-abbrev pub formCases : List ℕ → List Case
-formCases s =
+-- the refusals of a record's head: of its length, and of the first four bytes
+abbrev pub headCases : List ℕ → List Case
+headCases s =
     roomCases (length s)
     ++ case 14 (not (eqb (fieldAt s versionField) version))
     ∷ case 13 (not (eqb (fieldAt s lengthField) recordLength))
     ∷ case 15 (not (eqb (fieldAt s zeroField) 0))
-    ∷ case 16 (not (eqb (wordSum s 15 % 65536) 0))
     ∷ []
+
+-- the refusals of the bytes' form: of the head, and of the sum
+abbrev pub formCases : List ℕ → List Case
+formCases s = headCases s ++ case 16 (not (eqb (wordSum s 15 % 65536) 0)) ∷ []
 
 -- the refusals of reading: of the form, and of the clock words
 abbrev pub readCases : List ℕ → List Case
@@ -63,6 +66,11 @@ recordOf t s = recordWith (t .day) (t .micros) (signedAt s ut1Field) (signedAt s
 -- the record that the first thirty bytes of s are, or its refusal
 unfoldable pub readOf : List ℕ → ReadAnswer
 readOf s = refusedOr NoRecord (readCases s) (IsRecord (recordOf (instant (pos (fieldAt s dayField)) (fieldAt s timeField % markUnit)) s))
+
+-- an answer is a record
+abbrev pub isRecord : ReadAnswer → Bool
+isRecord (IsRecord r) = true
+isRecord (NoRecord n) = false
 
 -- ---- the numbers of an answer
 

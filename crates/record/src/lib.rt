@@ -9,13 +9,16 @@ use instants::Instant;
 ghost use mathlib.Core.Path.{_≡_};
 ghost use mathlib.Core.List.{[], _∷_, _++_};
 ghost use Prim.Native.Nat.{_≤_};
+ghost use lib.IntN.{pos};
 ghost use lib.ListN.{length};
 ghost use mir.Syntax.{w32};
 ghost use mir.Val.{SFits};
 ghost use Rattle.bigendian.specs.Numbers.{twosComplement};
-ghost use Rattle.record.specs.Format.{recordLength, fieldBytes, recordBytes};
-ghost use Rattle.record.specs.Inner.{formRefusal};
-ghost use Rattle.record.specs.Records.{writeRefusal, written, recordOf, readOf};
+ghost use Rattle.bigendian.specs.Fields.{fieldAt};
+ghost use Rattle.clock.specs.Words.{joinOf};
+ghost use Rattle.record.specs.Format.{recordLength, dayField, timeField, fieldBytes, recordBytes};
+ghost use Rattle.record.specs.Inner.{headRefusal, formRefusal};
+ghost use Rattle.record.specs.Records.{writeRefusal, written, recordOf, readOf, isRecord};
 
 // The bytes of a record.
 pub const LENGTH: usize = 30;
@@ -111,9 +114,9 @@ pub fn write(day: i64, micros: u64, ut1: i32, lod: i32, rate: i32, buffer: &mut 
     }
 }
 
-// The refusal of the bytes' form, or 0.
-fn form(s: &[u8]) -> u32
-    ensures { λ r. ⌜ r ≡ formRefusal (now (s .entry)) ⌝ }
+// The refusal of a record's head, or 0.
+fn head(s: &[u8]) -> u32
+    ensures { λ r. ⌜ r ≡ headRefusal (now (s .entry)) ⌝ }
 {
     if s.len() < LENGTH {
         return 12;
@@ -127,10 +130,29 @@ fn form(s: &[u8]) -> u32
     if field_at(s, ZERO_FIELD) != 0 {
         return 15;
     }
+    0
+}
+
+// The refusal of the bytes' form, or 0.
+fn form(s: &[u8]) -> u32
+    ensures { λ r. ⌜ r ≡ formRefusal (now (s .entry)) ⌝ }
+{
+    let n = head(s);
+    if n != 0 {
+        return n;
+    }
     if bigendian::word_sum(s, 15) != 0 {
         return 16;
     }
     0
+}
+
+// The clock words in s, joined.
+fn join_words(s: &[u8]) -> JoinAnswer
+    requires { ⌜ recordLength ≤ length (now s) ⌝ }
+    ensures { λ r. ⌜ r ≡ joinOf (pos (fieldAt (now (s .entry)) dayField)) (fieldAt (now (s .entry)) timeField) ⌝ }
+{
+    clock::join(field_at(s, DAY_FIELD) as i64, field_at(s, TIME_FIELD))
 }
 
 // An instant with the three numbers in s.
@@ -155,8 +177,32 @@ pub fn read(s: &[u8]) -> ReadAnswer
     if n != 0 {
         return ReadAnswer::NoRecord(n);
     }
-    match clock::join(field_at(s, DAY_FIELD) as i64, field_at(s, TIME_FIELD)) {
+    match join_words(s) {
         JoinAnswer::NoJoin(n) => ReadAnswer::NoRecord(n),
         JoinAnswer::Joined(t) => ReadAnswer::IsRecord(record_of(t, s)),
     }
+}
+
+// Whether what has a record's head reads as a record.
+fn reads_behind(s: &[u8]) -> bool
+    requires { ⌜ headRefusal (now s) ≡ 0 ⌝ }
+    ensures { λ r. ⌜ r ≡ isRecord (readOf (now (s .entry))) ⌝ }
+{
+    if bigendian::word_sum(s, 15) != 0 {
+        return false;
+    }
+    match join_words(s) {
+        JoinAnswer::NoJoin(_) => false,
+        JoinAnswer::Joined(_) => true,
+    }
+}
+
+// Whether the front of s reads as a record. The head tells most bytes that do not.
+pub fn reads(s: &[u8]) -> bool
+    ensures { λ r. ⌜ r ≡ isRecord (readOf (now (s .entry))) ⌝ }
+{
+    if head(s) != 0 {
+        return false;
+    }
+    reads_behind(s)
 }

@@ -10,8 +10,8 @@ use lib.ListN.{length, drop, take, length-drop}
 use lib.Seq.{take-all}
 use borrow.Author.Tests.{lt-ltb, le-ltb}
 use Rattle.record.specs.Format.{recordLength}
-use Rattle.record.specs.Records.{readOf}
-use Rattle.rescue.specs.Walk.{Walk, isRecord, recordAt, walkFrom}
+use Rattle.record.specs.Records.{readOf, isRecord}
+use Rattle.rescue.specs.Walk.{Walk, recordAt, walkFrom}
 use Rattle.rescue.specs.Inner.{Hop, placeIn}
 use Rattle.rescue.specs.Claims.{placesFrom}
 use Rattle.rescue.proofs.Walks.{record-within, walk-ends, walk-keeps, walk-passes}

@@ -12,9 +12,9 @@ use borrow.Author.Tests.{lt-ltb, le-ltb}
 use Rattle.record.specs.declared.ReadAnswer.{ReadAnswer}
 use Rattle.record.specs.declared.ReadAnswer.the-variants.{IsRecord, NoRecord}
 use Rattle.record.specs.Format.{recordLength}
-use Rattle.record.specs.Records.{readOf}
+use Rattle.record.specs.Records.{readOf, isRecord}
 use Rattle.record.proofs.Forms.{was-read}
-use Rattle.rescue.specs.Walk.{Walk, isRecord, recordAt, ended, keeping, passing, stepping, walkFrom}
+use Rattle.rescue.specs.Walk.{Walk, recordAt, ended, keeping, passing, stepping, walkFrom}
 use Rattle.rescue.specs.Inner.{Hop, placeIn}
 use Rattle.rescue.specs.Claims.{placesFrom}
 

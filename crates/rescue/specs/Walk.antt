@@ -1,20 +1,13 @@
 -- The walk over bytes s: what is kept and which places are passed. Places are counted from 0.
 use Prim.Native.Nat.{ℕ, zero, suc, _+_, _-_}
-use mathlib.Core.Bool.{Bool, true, false, cond}
+use mathlib.Core.Bool.{Bool, cond}
 use mathlib.Core.List.{List, [], _∷_}
 use lib.Dec.{eqb, ltb}
 use lib.ListN.{length, drop}
-use Rattle.record.specs.declared.ReadAnswer.{ReadAnswer}
-use Rattle.record.specs.declared.ReadAnswer.the-variants.{IsRecord, NoRecord}
 use Rattle.record.specs.Format.{recordLength}
-use Rattle.record.specs.Records.{readOf}
+use Rattle.record.specs.Records.{readOf, isRecord}
 
 -- ---- the rule
-
--- an answer of reading is a record
-abbrev pub isRecord : ReadAnswer → Bool
-isRecord (IsRecord r) = true
-isRecord (NoRecord n) = false
 
 -- the next thirty bytes at place i read as a record
 abbrev pub recordAt : List ℕ → ℕ → Bool

@@ -1,14 +1,12 @@
 // Records rescued from damaged bytes: a walk keeps what reads as a record and passes every other byte.
 use record::LENGTH;
-use record::ReadAnswer;
 ghost use mathlib.Core.Path.{_≡_};
 ghost use mathlib.Core.Bool.{cond};
 ghost use Prim.Native.Nat.{_+_, _-_, _*_, _≤_, _<_};
 ghost use lib.ListN.{length};
 ghost use Rattle.bigendian.specs.Buffers.{atFront};
 ghost use Rattle.record.specs.Format.{recordLength};
-ghost use Rattle.record.specs.Records.{readOf};
-ghost use Rattle.rescue.specs.Walk.{isRecord, rangesOf};
+ghost use Rattle.rescue.specs.Walk.{rangesOf};
 ghost use Rattle.rescue.specs.Rescue.{mostBytes, entryLength, countsOf, recordsAt, keptBytes, listBytes, rangesIn, rescueOf, recordsAfter, listAfter, rescueRefusalOf};
 ghost use Rattle.rescue.specs.Inner.{Hop, rangeTo, placeIn, Fits};
 
@@ -33,16 +31,6 @@ pub enum RescueAnswer {
     NoRescue(u32),
 }
 
-// Whether the front of s reads as a record.
-fn reads(s: &[u8]) -> bool
-    ensures { λ r. ⌜ r ≡ isRecord (readOf (now (s .entry))) ⌝ }
-{
-    match record::read(s) {
-        ReadAnswer::IsRecord(_) => true,
-        ReadAnswer::NoRecord(_) => false,
-    }
-}
-
 // The next place, from `from` on, at which a record stands, or the end.
 pub fn next_record(s: &[u8], from: usize) -> usize
     requires { ⌜ from ≤ length (now s) ⌝ }
@@ -50,7 +38,7 @@ pub fn next_record(s: &[u8], from: usize) -> usize
 {
     let mut at = from;
     while at < s.len() {
-        if reads(&s[at..]) {
+        if record::reads(&s[at..]) {
             return at;
         }
         at += 1;

@@ -1,18 +1,12 @@
 -- `record::read` meets its contract: the form is refused, the clock words are refused, or the record is that of the joined words and the fields. Assumes nothing.
-use Prim.Native.Nat.{ℕ, _^_, _<_, _≤_}
+use Prim.Native.Nat.{ℕ, _≤_}
 use mathlib.Core.Path.{_≡_, ap, sym, _∙_}
 use mathlib.Core.List.{List}
-use native.Mathlib.Omega.{arith}
-use lib.IntN.{pos}
 use lib.ListN.{length}
 use denote.Ref.{now}
-use mir.Syntax.{w64}
-use mir.Facts.{toZ-pos}
 use Rattle.instants.proofs.FirstRefusal.{refused-first}
-use Rattle.clock.specs.Words.{joinOf}
 use Rattle.record.specs.declared.ReadAnswer.the-variants.{IsRecord, NoRecord}
-use Rattle.bigendian.specs.Fields.{fieldAt}
-use Rattle.record.specs.Format.{recordLength, dayField, timeField}
+use Rattle.record.specs.Format.{recordLength}
 use Rattle.record.specs.Records.{formCases, readOf}
 use Rattle.record.specs.Inner.{formRefusal}
 use Rattle.record.proofs.Forms.{formed, read-refused, read-joined}
@@ -20,15 +14,15 @@ use borrow.Author.Needs.{needs}
 use Rattle.record.proofs.read.Statement.{statement}
 use Rattle.record.proofs.read.Tie as tie
 
--- ---- the places, from later to earlier: the form is tested, the words are read and joined
+-- ---- the places, from later to earlier: the form is tested, the words are joined
 
 abbrev bytes : tie.After-form → List ℕ
 bytes c = now (c .before .before .args .s)
 
-abbrev tested : tie.After-join → tie.Else1
-tested c = c .before .before .before
+abbrev tested : tie.After-join-words → tie.Else1
+tested c = c .before
 
-abbrev joining : tie.After-t → tie.After-join
+abbrev joining : tie.After-t → tie.After-join-words
 joining c = c .before .before
 
 -- ---- what is known there
@@ -39,15 +33,6 @@ right c = sym (c .before .form .ensures) ∙ c .if1 .left
 long : (c : tie.Else1) → recordLength ≤ length (bytes (c .before))
 long c = formed _ (right c) .long
 
-joins : (c : tie.After-join) →
-    let s = bytes (tested c .before) in
-    c .join .result ≡ joinOf (pos (fieldAt s dayField)) (fieldAt s timeField)
-joins c =
-    let a2 = c .before in
-    let a1 = a2 .before in
-    let l : a1 .field-at .result < 2 ^ 63 = omega (arith, a1 .field-at .ensures .1) in
-    c .join .ensures ∙ rw (toZ-pos w64 l) (simp (a1 .field-at .ensures .0, a2 .field-at2 .ensures .0))
-
 form-requires : tie.Need-form-requires
 form-requires c κs = search needs
 
@@ -57,17 +42,8 @@ returns c =
     let e = c .before .form .ensures in
     ap NoRecord e ∙ sym (refused-first NoRecord (formCases (bytes (c .before))) _ (λ q. c .if1 .taken (e ∙ q)))
 
-field-at-requires : tie.Need-field-at-requires
-field-at-requires c κs = omega (arith, long c)
-
-cast-join : tie.Need-cast-join
-cast-join c = search needs
-
-field-at-requires-2 : tie.Need-field-at-requires-2
-field-at-requires-2 c κs = omega (arith, long (c .before))
-
-join-requires : tie.Need-join-requires
-join-requires c κs = search needs
+join-words-requires : tie.Need-join-words-requires
+join-words-requires c κs = long c
 
 enum-known-n : tie.Need-enum-known-n
 enum-known-n c = search needs
@@ -80,13 +56,13 @@ record-of-requires c κs = long (tested (joining (c .before)))
 
 returns-2 : tie.Need-returns-2
 returns-2 c =
-    let j : tie.After-join = c .before .before .before in
-    sym (read-refused _ (right (tested j)) _ (sym (joins j) ∙ c .before .n .given .1))
+    let j : tie.After-join-words = c .before .before .before in
+    sym (read-refused _ (right (tested j)) _ (sym (j .join-words .ensures) ∙ c .before .n .given .1))
 
 returns-3 : tie.Need-returns-3
 returns-3 c =
     let t : tie.After-t = c .before .before in
-    ap IsRecord (c .record-of .ensures) ∙ sym (read-joined _ (right (tested (joining t))) _ (sym (joins (joining t)) ∙ t .t .given .1))
+    ap IsRecord (c .record-of .ensures) ∙ sym (read-joined _ (right (tested (joining t))) _ (sym (joining t .join-words .ensures) ∙ t .t .given .1))
 
 pub read-spec : {M : Type 1} → statement M
 read-spec =
@@ -94,10 +70,7 @@ read-spec =
     (tie.spec
     form-requires
     returns
-    field-at-requires
-    cast-join
-    field-at-requires-2
-    join-requires
+    join-words-requires
     enum-known-n
     enum-known-t
     record-of-requires
