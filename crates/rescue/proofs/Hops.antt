@@ -50,7 +50,7 @@ lent-reads s j = ap (λ (l : List ℕ). isRecord (readOf l)) (take-all (length s
 -- ---- a hop of the walk
 
 -- over places without a record
-over : (n : ℕ) (s : List ℕ) (i : ℕ) → i + n ≤ length s → ((k : ℕ) → i ≤ k → k < i + n → recordAt s k ≡ false)
+pub over : (n : ℕ) (s : List ℕ) (i : ℕ) → i + n ≤ length s → ((k : ℕ) → i ≤ k → k < i + n → recordAt s k ≡ false)
     → (walkFrom s i .kept ≡ walkFrom s (i + n) .kept) × (walkFrom s i .passed ≡ placesFrom i n ++ walkFrom s (i + n) .passed)
 over zero s i h f =
     let e : i ≡ i + 0 = omega arith in

@@ -8,3 +8,6 @@ pub mod Ranges
 pub mod Covers
 pub mod Rounds
 pub mod Answers
+pub mod Whole
+pub mod Damage
+pub mod Promises

@@ -25,7 +25,7 @@ joined-apart i [] h = refl
 joined-apart i (r ∷ rs) h = rw (ne-eqb (i + 1) (r .start) (λ e. omega arith)) refl
 
 -- n places from i on, before ranges behind a gap
-joined-places : (n i : ℕ) (ps : List ℕ) → StartsAfter (i + n) (rangesOf ps) → rangesOf (placesFrom i n ++ ps) ≡ rangeTo i (i + n) ++ rangesOf ps
+pub joined-places : (n i : ℕ) (ps : List ℕ) → StartsAfter (i + n) (rangesOf ps) → rangesOf (placesFrom i n ++ ps) ≡ rangeTo i (i + n) ++ rangesOf ps
 unfolding rangesOf
 joined-places zero i ps h = rw (le-ltb i (i + 0) (omega arith)) refl
 joined-places (suc zero) i ps h =
@@ -54,17 +54,23 @@ starts-after : (i j : ℕ) (rs : List Range) → i < j → StartsFrom j rs → S
 starts-after i j [] l h = tt
 starts-after i j (r ∷ rs) l h = omega arith
 
+-- ranges that end among n bytes
+abbrev pub Within : ℕ → List Range → Type 0
+Within n [] = Unit {0}
+Within n (r ∷ rs) = (r .start + r .size ≤ n) × Within n rs
+
 -- the ranges from place i of n bytes: in order and apart; and there are few, since a record of thirty bytes is between two of them
 record Spaced (n i : ℕ) (rs : List Range) : Type 0 where
   pub from : StartsFrom i rs
   pub apart : Apart rs
+  pub within : Within n rs
   pub few : 31 * length rs ≤ n - i + 30
   pub fewer : StartsAfter i rs → 31 * length rs ≤ n - i
 
 -- one more place
 joined-spaced : (n i : ℕ) (rs : List Range) → i < n → Spaced n (i + 1) rs → Spaced n i (joined i rs)
 joined-spaced n i [] l h =
-    record { from = omega arith; apart = (omega arith, tt, tt); few = omega arith; fewer = λ g. absurd (omega arith) }
+    record { from = omega arith; apart = (omega arith, tt, tt); within = (omega arith, tt); few = omega arith; fewer = λ g. absurd (omega arith) }
 joined-spaced n i (r ∷ rs) l h = by (eqb (i + 1) (r .start)) refl
   where
     by : (b : Bool) → eqb (i + 1) (r .start) ≡ b → Spaced n i (cond b (range i (r .size + 1) ∷ rs) (range i 1 ∷ r ∷ rs))
@@ -74,20 +80,21 @@ joined-spaced n i (r ∷ rs) l h = by (eqb (i + 1) (r .start)) refl
         record {
           from = omega arith;
           apart = (omega arith, subst (λ (k : ℕ). StartsAfter k rs) g (h .apart .1), h .apart .2);
+          within = (omega (arith, h .within .0), h .within .1);
           few = omega (arith, h .few);
           fewer = λ f. absurd (omega arith);
         }
     by false e =
         let q : i + 1 < r .start = omega (arith, h .from, eqb-false (i + 1) (r .start) e) in
-        record { from = omega arith; apart = (omega arith, q, h .apart); few = omega (arith, h .fewer q); fewer = λ f. absurd (omega arith) }
+        record { from = omega arith; apart = (omega arith, q, h .apart); within = (omega arith, h .within); few = omega (arith, h .fewer q); fewer = λ f. absurd (omega arith) }
 
 -- those of a walk
 spaced : (s : List ℕ) (i : ℕ) → Spaced (length s) i (rangesOf (walkFrom s i .passed))
 unfolding rangesOf
 spaced s =
     walk-case (λ (i : ℕ) (w : Walk). Spaced (length s) i (rangesOf (w .passed))) s
-    (λ i h. record { from = tt; apart = tt; few = omega arith; fewer = λ f. omega arith })
-    (λ i w e h p. record { from = starts-from i (i + recordLength) (rangesOf (w .passed)) (omega arith) (p .from); apart = p .apart; few = omega (arith, p .few); fewer = λ f. omega (arith, p .few) })
+    (λ i h. record { from = tt; apart = tt; within = tt; few = omega arith; fewer = λ f. omega arith })
+    (λ i w e h p. record { from = starts-from i (i + recordLength) (rangesOf (w .passed)) (omega arith) (p .from); apart = p .apart; within = p .within; few = omega (arith, p .few); fewer = λ f. omega (arith, p .few) })
     (λ i w e h p. joined-spaced (length s) i (rangesOf (w .passed)) h p)
 
 -- a hop adds a range, or none
@@ -109,6 +116,10 @@ ranges-apart s = spaced s 0 .apart
 pub ranges-few : (s : List ℕ) → 31 * length (rangesIn s) ≤ length s + 30
 unfolding rangesIn
 ranges-few s = omega (arith, spaced s 0 .few)
+
+pub ranges-within : (s : List ℕ) → Within (length s) (rangesIn s)
+unfolding rangesIn
+ranges-within s = spaced s 0 .within
 
 joined-places-of : (i : ℕ) (rs : List Range) → placesOf (joined i rs) ≡ i ∷ placesOf rs
 joined-places-of i [] = refl

@@ -4,9 +4,11 @@ use mathlib.Core.Path.{_≡_}
 use mathlib.Core.Bool.{Bool, true, false, not, _&&_, _||_}
 use mathlib.Core.List.{List, [], _∷_, _++_}
 use lib.Dec.{eqb, ltb, leb}
-use lib.ListN.{length}
+use lib.ListN.{length, drop}
+use Rattle.bigendian.specs.Numbers.{numberAt}
 use Rattle.record.specs.Format.{recordLength}
-use Rattle.rescue.specs.Walk.{Range, recordAt}
+use Rattle.rescue.specs.Walk.{Range, range, recordAt}
+use Rattle.rescue.specs.Rescue.{entryLength}
 
 -- something holds of every place of a list
 abbrev pub Each : (ℕ → Type 0) → List ℕ → Type 0
@@ -42,6 +44,16 @@ StartsAfter i (r ∷ rs) = i < r .start
 abbrev pub Apart : List Range → Type 0
 Apart [] = Unit {0}
 Apart (r ∷ rs) = (1 ≤ r .size) × StartsAfter (r .start + r .size) rs × Apart rs
+
+-- the first n entries of a list of ranges, read from its bytes
+abbrev pub listed : ℕ → List ℕ → List Range
+listed zero l = []
+listed (suc n) l = range (numberAt l 0 4) (numberAt l 4 4) ∷ listed n (drop entryLength l)
+
+-- n places from i on, thirty apart
+abbrev pub recordPlaces : ℕ → ℕ → List ℕ
+recordPlaces i zero = []
+recordPlaces i (suc n) = i ∷ recordPlaces (i + recordLength) n
 
 -- s is n records, one behind the other, with nothing between
 pub record WholeRecords (s : List ℕ) (n : ℕ) : Type 0 where

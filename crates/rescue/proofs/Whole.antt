@@ -1,0 +1,62 @@
+-- Whole records one behind the other are all kept: each is met where the one before it ends. Assumes nothing.
+use Prim.Native.Nat.{ℕ, zero, suc, _+_, _*_, _<_}
+use mathlib.Core.Path.{_≡_, refl, ap, sym, _∙_}
+use mathlib.Core.Bool.{true}
+use mathlib.Core.List.{List, [], _∷_, _++_, append-nil}
+use native.Mathlib.Omega.{arith}
+use lib.ListN.{length, take, drop}
+use lib.Seq.{take-add, take-all, drop-drop}
+use Rattle.record.specs.Format.{recordLength}
+use Rattle.rescue.specs.Walk.{Walk, recordAt, walkFrom}
+use Rattle.rescue.specs.Rescue.{keptCount, passedCount, recordsAt, keptBytes}
+use Rattle.rescue.specs.Claims.{recordPlaces, WholeRecords}
+use Rattle.rescue.proofs.Walks.{walk-ends, walk-keeps}
+
+-- ---- records one behind the other
+
+-- n records from place i on are kept
+pub all-kept : (n : ℕ) (s : List ℕ) (i : ℕ) → ((k : ℕ) → k < n → recordAt s (i + recordLength * k) ≡ true)
+    → (walkFrom s i .kept ≡ recordPlaces i n ++ walkFrom s (i + recordLength * n) .kept) × (walkFrom s i .passed ≡ walkFrom s (i + recordLength * n) .passed)
+all-kept zero s i h =
+    let e : i ≡ i + recordLength * 0 = omega arith in
+    (ap (λ (j : ℕ). walkFrom s j .kept) e, ap (λ (j : ℕ). walkFrom s j .passed) e)
+all-kept (suc n) s i h =
+    let e : i + recordLength * 0 ≡ i = omega arith in
+    let f : i + recordLength + recordLength * n ≡ i + recordLength * suc n = omega arith in
+    let w = walk-keeps s i (ap (recordAt s) (sym e) ∙ h 0 (omega arith)) in
+    let r = all-kept n s (i + recordLength) (λ k l. let g : i + recordLength + recordLength * k ≡ i + recordLength * suc k = omega arith in ap (recordAt s) g ∙ h (suc k) (omega arith)) in (
+      ap (λ (x : Walk). x .kept) w ∙ ap (λ (l : List ℕ). i ∷ l) (r .0 ∙ ap (λ (j : ℕ). recordPlaces (i + recordLength) n ++ walkFrom s j .kept) f),
+      ap (λ (x : Walk). x .passed) w ∙ (r .1 ∙ ap (λ (j : ℕ). walkFrom s j .passed) f),
+    )
+
+-- they are the bytes there
+pub records-there : (n : ℕ) (s : List ℕ) (i : ℕ) → recordsAt s (recordPlaces i n) ≡ take (recordLength * n) (drop i s)
+records-there zero s i = refl
+records-there (suc n) s i =
+    let e : recordLength * suc n ≡ recordLength + recordLength * n = omega arith in
+    ap (λ (l : List ℕ). take recordLength (drop i s) ++ l) (records-there n s (i + recordLength) ∙ ap (take (recordLength * n)) (sym (drop-drop recordLength i s)))
+    ∙ (sym (take-add recordLength (recordLength * n) (drop i s)) ∙ ap (λ (k : ℕ). take k (drop i s)) (sym e))
+
+pub places-count : (n i : ℕ) → length (recordPlaces i n) ≡ n
+places-count zero i = refl
+places-count (suc n) i = ap suc (places-count n (i + recordLength))
+
+-- what a walk over whole records is
+whole-walk : (s : List ℕ) (n : ℕ) → WholeRecords s n → (walkFrom s 0 .kept ≡ recordPlaces 0 n) × (walkFrom s 0 .passed ≡ [])
+whole-walk s n w =
+    let e : 0 + recordLength * n ≡ length s = omega (arith, w .size) in
+    let f = walk-ends s (0 + recordLength * n) (omega (arith, e)) in
+    let r = all-kept n s 0 (λ k l. let g : 0 + recordLength * k ≡ recordLength * k = omega arith in ap (recordAt s) g ∙ w .reads k l) in (
+      r .0 ∙ (ap (λ (x : Walk). recordPlaces 0 n ++ x .kept) f ∙ append-nil (recordPlaces 0 n)),
+      r .1 ∙ ap (λ (x : Walk). x .passed) f,
+    )
+
+-- PROMISE. Whole records, with nothing between, are all kept, and no byte is passed.
+pub whole-kept : (s : List ℕ) (n : ℕ) → WholeRecords s n → (keptCount s ≡ n) × (keptBytes s ≡ s) × (passedCount s ≡ 0)
+unfolding keptCount keptBytes passedCount
+whole-kept s n w =
+    let e = whole-walk s n w in (
+      ap length (e .0) ∙ places-count n 0,
+      ap (recordsAt s) (e .0) ∙ (records-there n s 0 ∙ take-all (recordLength * n) s (omega (arith, w .size))),
+      ap length (e .1),
+    )
