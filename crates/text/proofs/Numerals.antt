@@ -89,3 +89,7 @@ numeral-most n = most 20 n
 pub refusal-length : (n : ℕ) → length (refusalText n) ≡ length (numeral n) + 9
 unfolding refusalText
 refusal-length n = simp length-append (omega arith)
+
+-- twenty-nine at most
+pub refusal-most : (n : ℕ) → length (refusalText n) ≤ 29
+refusal-most n = omega (arith, refusal-length n, numeral-most n)

@@ -1,10 +1,10 @@
 -- `text::refuse` meets its contract: the word, the numeral and the newline are put one behind another. Assumes nothing.
 use Prim.Native.Nat.{ℕ, _+_, _≤_}
-use mathlib.Core.Path.{_≡_, refl}
+use mathlib.Core.Path.{_≡_, refl, _∙_}
 use mathlib.Core.List.{List, [], _∷_, _++_, append-assoc}
 use native.Mathlib.Omega.{arith}
 use denote.Ref.{now}
-use lib.ListN.{length, set, length-append, length-take, length-drop}
+use lib.ListN.{length, set, length-set, length-append, length-take, length-drop}
 use Rattle.text.specs.Text.{numeral, refusalText}
 use Rattle.text.proofs.Numerals.{refusal-length, numeral-most}
 use Rattle.text.proofs.Pieces.{Puts, lentFrom, copied, put-length, more-put, byte-put}
@@ -58,11 +58,14 @@ module _ (y : tie.After-put-numeral) where
   second : Puts (word ++ numeral n) (old w) end filled
   second = more-put word (old w) _ (new w) (first w) (numeral n) _ _ (y .put-numeral .ensures)
 
+  kept : length filled ≡ length (old w)
+  kept =
+      let k : length (word ++ numeral n) ≡ 8 + length (numeral n) = length-append word (numeral n) in
+      put-length (word ++ numeral n) (old w) end filled second (omega (arith, fits w))
+
   -- there is room for the newline
   within : end + 1 ≤ length filled
-  within =
-      let k : length (word ++ numeral n) ≡ 8 + length (numeral n) = length-append word (numeral n) in
-      omega (arith, fits w, second .0, put-length (word ++ numeral n) (old w) end filled second (omega (arith, fits w)))
+  within = omega (arith, fits w, first w .0, y .put-numeral .ensures .0, kept)
 
   third : Puts (refusalText n) (old w) (end + 1) (set filled end 10)
   third = rw (← pieces n) (byte-put (word ++ numeral n) (old w) end filled second 10 (omega (arith, within)))
@@ -95,7 +98,7 @@ add-result : tie.Need-add-result
 add-result c = let y : tie.After-put-numeral = c .before .before in omega (arith, numeral-most (n y), first (w y) .0, y .put-numeral .ensures .0)
 
 same-length : tie.Need-same-length
-same-length c = let y : tie.After-put-numeral = c .before .before in put-length (refusalText (n y)) (old (w y)) _ _ (third y) (s (w y) .pre)
+same-length c = let y : tie.After-put-numeral = c .before .before in length-set (filled y) (end y) _ ∙ kept y
 
 returns : tie.Need-returns
 returns c = third (c .before .before)
