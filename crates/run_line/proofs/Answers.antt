@@ -1,16 +1,15 @@
 -- What is written, case by case. The code asks for the line, then for its date's day number, then for the run; the definition has the date's refusals
 -- before those of the run. So a refused date ends the list at its front, and past an accepted date the run's text is left. Assumes nothing.
-use Prim.Native.Nat.{ℕ, _*_, _<_}
+use Prim.Native.Nat.{ℕ, _*_}
 use mathlib.Core.Path.{_≡_, refl, sym}
-use native.Mathlib.Omega.{arith}
 use lib.IntN.{ℤ}
 use lib.ListN.{length}
 use mathlib.Core.List.{List}
 use Rattle.calendar.specs.declared.DayAnswer.the-variants.{Day, NoDay}
-use Rattle.instants.specs.Refusals.{refusedOr, firstRefusal}
+use Rattle.instants.specs.Refusals.{refusedOr}
 use Rattle.calendar.specs.Dates.{dateCases, dayOf}
 use Rattle.instants.proofs.Impossible.{impossible}
-use Rattle.instants.proofs.FirstRefusal.{refused-alike, answered-none, none-answered, refused-first, first-none, first-below}
+use Rattle.instants.proofs.FirstRefusal.{refused-alike, answered-none, none-answered, refused-first, first-none}
 use Rattle.line.specs.declared.Line.{Line}
 use Rattle.line.specs.declared.LineAnswer.the-variants.{Parsed, BadLine}
 use Rattle.line.specs.Lines.{lineOf}
@@ -18,20 +17,16 @@ use Rattle.record.specs.Format.{recordLength}
 use Rattle.run.specs.Run.{runRefusal, runWritten, runBytes}
 use Rattle.run.proofs.Records.{run-length, run-written, refused-unchanged}
 use Rattle.calendar.specs.Limits.{secondMicros}
-use Rattle.run_line.specs.Words.{refusalText, badText}
+use Rattle.text.specs.Text.{refusalText}
+use Rattle.text.proofs.Pieces.{Puts}
+use Rattle.run_line.specs.Words.{badText}
 use Rattle.run_line.specs.Answer.{room, lineDay, dayRunCases, dayRunText, answerText}
-use Rattle.run_line.proofs.Words.{Puts}
 
 -- ---- the run of a day
 
 module _ (d : ℤ) (count step : ℕ) where
   abbrev refusal : ℕ
   refusal = runRefusal d 0 count (step * secondMicros) room
-
-  -- a refusal has two digits at most
-  pub run-two-digits : refusal < 100
-  unfolding runRefusal
-  run-two-digits = first-below 100 (dayRunCases d count step) (omega arith) tt
 
   module _ (old : List ℕ) (long : length old ≡ room) where
     -- a run that is refused leaves the buffer to its refusal's text
@@ -51,14 +46,6 @@ module _ (d : ℤ) (count step : ℕ) where
         rw t (sym (run-length d 0 (step * secondMicros) count), run-written d 0 count (step * secondMicros) old (rw long e))
 
 -- ---- a line
-
--- a date's refusal has two digits at most
-pub date-two-digits : (l : Line) (n : ℕ) → dayOf (l .year) (l .month) (l .day) ≡ NoDay n → n < 100
-unfolding dayOf
-date-two-digits l n f =
-    let cs = dateCases (l .year) (l .month) (l .day) in
-    let p : firstRefusal cs ≡ n = refused-alike NoDay (λ k. k) cs (Day (lineDay l)) 0 n (λ k p. cc) (λ p. impossible (cc)) f in
-    rw (← p) (first-below 100 cs (omega arith) tt)
 
 module _ (s : List ℕ) where
   pub bad : lineOf s ≡ BadLine → badText ≡ answerText s

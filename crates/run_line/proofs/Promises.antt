@@ -2,12 +2,11 @@
 -- and which bytes of the input decide. Assumes nothing.
 use Prim.Native.Nat.{ℕ, _+_, _*_, _/_, _%_, _≤_, _<_}
 use mathlib.Core.Path.{_≡_, refl, ap, sym, _∙_}
-use mathlib.Core.Bool.{Bool, true, false, cond}
+use mathlib.Core.Bool.{true}
 use mathlib.Core.List.{List, [], _∷_, _++_}
 use native.Mathlib.Omega.{arith}
-use lib.Dec.{ltb}
 use lib.ListN.{length, take, getD}
-use borrow.Author.Tests.{ltb-true, le-ltb, le-leb}
+use borrow.Author.Tests.{le-ltb, le-leb}
 use Rattle.calendar.specs.declared.DayAnswer.the-variants.{Day, NoDay}
 use Rattle.instants.specs.Refusals.{case, refusedOr, firstRefusal}
 use Rattle.calendar.specs.Dates.{date, leapYear, monthLengths, monthLength, sum, yearLength, daysOfYears, daysBefore, dateIndex, dateCases, dayOf}
@@ -27,7 +26,9 @@ use Rattle.instants.specs.Instants.{dayAtIndex}
 use Rattle.instants.proofs.Accepted.{between}
 use Rattle.run.proofs.Records.{run-length}
 use Rattle.calendar.specs.Limits.{secondMicros}
-use Rattle.run_line.specs.Words.{ascii, numerals, refusalText, badText}
+use Rattle.text.specs.Text.{ascii, numeral, refusalText}
+use Rattle.text.proofs.Numerals.{by-digits, numeral-one, numeral-more, refusal-most}
+use Rattle.run_line.specs.Words.{badText}
 use Rattle.run_line.specs.Answer.{room, lineDay, dayRunText, lineText, answerText}
 use Rattle.run_line.specs.Claims.{shortRunCases, shortCases, lineRun}
 use Rattle.run_line.proofs.Answers.{bad}
@@ -51,39 +52,33 @@ line-answer s l e =
 is-digit : (d : ℕ) → d < 10 → isDigit (48 + d) ≡ true
 is-digit d h = rw (le-leb 48 (48 + d) (omega arith), le-leb (48 + d) 57 (omega arith)) refl
 
--- the numerals of a number below 100 write it
-numerals-write : (n : ℕ) → n < 100 → Writes (numerals n) n
+-- the numeral of a number below 100 writes it
+numeral-writes : (n : ℕ) → n < 100 → Writes (numeral n) n
 unfolding digits decimalFrom
-numerals-write n h = by (ltb n 10) refl
+numeral-writes n h = by-digits n one two
   where
-    by : (b : Bool) → ltb n 10 ≡ b → Writes (cond b ((48 + n) ∷ []) ((48 + n / 10) ∷ (48 + n % 10) ∷ [])) n
-    by true p = record {
-      every = digits-more (48 + n) [] (is-digit n (ltb-true n 10 p));
-      least = omega arith;
-      few = omega arith;
-      value = omega arith;
-    }
-    by false p = record {
-      every = rw (digits-more (48 + n / 10) ((48 + n % 10) ∷ []) (is-digit (n / 10) (omega arith)), digits-more (48 + n % 10) [] (is-digit (n % 10) (omega arith))) refl;
-      least = omega arith;
-      few = omega arith;
-      value = omega arith;
-    }
+    one : n < 10 → Writes (numeral n) n
+    one l = rw (numeral-one n l) (record { every = digits-more (48 + n) [] (is-digit n l); least = omega arith; few = omega arith; value = omega arith })
 
--- PROMISE. The numerals in the text of a line's refusal write the refusal's number.
-pub refusal-number : (l : Line) → Writes (numerals (firstRefusal (shortCases l))) (firstRefusal (shortCases l))
-refusal-number l = numerals-write (firstRefusal (shortCases l)) (first-below 100 (shortCases l) (omega arith) tt)
+    two : 10 ≤ n → Writes (numeral n) n
+    two l =
+        rw (numeral-more n l (omega arith), numeral-one (n / 10) (omega arith))
+        (record {
+          every = rw (digits-more (48 + n / 10) ((48 + n % 10) ∷ []) (is-digit (n / 10) (omega arith)), digits-more (48 + n % 10) [] (is-digit (n % 10) (omega arith))) refl;
+          least = omega arith;
+          few = omega arith;
+          value = omega arith;
+        })
+
+-- PROMISE. The numeral in the text of a line's refusal writes the refusal's number.
+pub refusal-number : (l : Line) → Writes (numeral (firstRefusal (shortCases l))) (firstRefusal (shortCases l))
+refusal-number l = numeral-writes (firstRefusal (shortCases l)) (first-below 100 (shortCases l) (omega arith) tt)
 
 -- ---- how much is written
 
--- a refusal's text has 11 bytes at most
+-- a refusal's text is shorter than a day's run
 refusal-short : (n : ℕ) → length (refusalText n) ≤ 2880
-unfolding refusalText
-refusal-short n = by (ltb n 10)
-  where
-    by : (b : Bool) → length (ascii "refused " ++ cond b ((48 + n) ∷ []) ((48 + n / 10) ∷ (48 + n % 10) ∷ []) ++ ascii "\n") ≤ 2880
-    by true = omega arith
-    by false = omega arith
+refusal-short n = omega (arith, refusal-most n)
 
 -- PROMISE. The program writes 2,880 bytes at most.
 pub answer-most : (s : List ℕ) → length (answerText s) ≤ 2880

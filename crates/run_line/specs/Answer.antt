@@ -11,7 +11,8 @@ use Rattle.line.specs.declared.LineAnswer.the-variants.{Parsed, BadLine}
 use Rattle.line.specs.Lines.{lineOf}
 use Rattle.run.specs.Run.{runCases, runBytes}
 use Rattle.calendar.specs.Limits.{secondMicros}
-use Rattle.run_line.specs.Words.{refusalText, badText}
+use Rattle.text.specs.Text.{refusalText}
+use Rattle.run_line.specs.Words.{badText}
 
 -- the bytes of the program's buffer
 abbrev pub room : ℕ

@@ -4,38 +4,10 @@ use calendar::SECOND_MICROS;
 use line::LineAnswer;
 use record::LENGTH;
 ghost use mathlib.Core.Path.{_≡_};
-ghost use Prim.Native.Nat.{_+_, _^_, _<_, _≤_};
+ghost use Prim.Native.Nat.{_^_, _<_};
 ghost use lib.ListN.{length};
 ghost use Rattle.bigendian.specs.Buffers.{atFront};
-ghost use Rattle.run_line.specs.Words.{refusalText};
 ghost use Rattle.run_line.specs.Answer.{room, dayRunText, answerText};
-
-// The ASCII digit of a number below 10.
-fn digit(n: u32) -> u8
-    requires { ⌜ n < 10 ⌝ }
-    ensures { λ r. ⌜ r ≡ 48 + n ⌝ }
-{
-    b'0' + (n as u8)
-}
-
-// Puts a refusal's text at the front of the buffer and returns its length.
-fn refuse(number: u32, buffer: &mut [u8]) -> usize
-    requires two_digits { ⌜ number < 100 ⌝ }
-    requires space { ⌜ 11 ≤ length (now buffer) ⌝ }
-    ensures size { λ r. ⌜ r ≡ length (refusalText number) ⌝ }
-    ensures buffer { λ _. ⌜ now (buffer .exit) ≡ atFront (refusalText number) (now (buffer .entry)) ⌝ }
-{
-    if number < 10 {
-        let mut text = *b"refused 0\n";
-        text[8] = digit(number);
-        bytes::copy(&text, buffer)
-    } else {
-        let mut text = *b"refused 00\n";
-        text[8] = digit(number / 10);
-        text[9] = digit(number % 10);
-        bytes::copy(&text, buffer)
-    }
-}
 
 // Puts the run of a day from 0 h on, with a step in seconds, or its refusal at the front of the buffer, and returns the length.
 fn day_run(day: i64, count: u64, step: u64, buffer: &mut [u8]) -> usize
@@ -46,7 +18,7 @@ fn day_run(day: i64, count: u64, step: u64, buffer: &mut [u8]) -> usize
 {
     let n = run::write(day, 0, count, step * SECOND_MICROS, buffer);
     if n != 0 {
-        return refuse(n, buffer);
+        return text::refuse(n, buffer);
     }
     LENGTH * (count as usize)
 }
@@ -59,7 +31,7 @@ pub fn answer(s: &[u8], buffer: &mut [u8; 2880]) -> usize
     match line::parse(s) {
         LineAnswer::BadLine => bytes::copy(b"bad line\n", buffer),
         LineAnswer::Parsed(l) => match calendar::day_of(l.year, l.month, l.day) {
-            DayAnswer::NoDay(n) => refuse(n, buffer),
+            DayAnswer::NoDay(n) => text::refuse(n, buffer),
             DayAnswer::Day(d) => day_run(d, l.count, l.step, buffer),
         },
     }

@@ -1,7 +1,7 @@
 -- `run_line::answer` meets its contract: each of the three ways out is a law of Answers. Assumes nothing.
 use mathlib.Core.Path.{_≡_, _∙_, ap, sym}
 use mathlib.Core.List.{List, _++_}
-use Prim.Native.Nat.{ℕ, _≤_}
+use Prim.Native.Nat.{ℕ}
 use native.Mathlib.Omega.{arith}
 use denote.Ref.{now}
 use lib.IntN.{ℤ}
@@ -10,10 +10,12 @@ use mir.Facts.{toZ-ofZ}
 use Rattle.line.specs.declared.Line.{Line}
 use Rattle.line.specs.declared.LineAnswer.the-variants.{Parsed}
 use Rattle.line.specs.Lines.{lineOf}
+use Rattle.text.proofs.Numerals.{refusal-most}
+use Rattle.text.proofs.Pieces.{Puts, copied}
 use Rattle.run_line.specs.Answer.{room, dayRunText}
 use Rattle.run_line.proofs.Small.{step-small}
-use Rattle.run_line.proofs.Words.{Puts, copied, badBytes, bad-line}
-use Rattle.run_line.proofs.Answers.{date-two-digits, bad, no-date, on-date}
+use Rattle.run_line.proofs.Words.{badBytes, bad-line}
+use Rattle.run_line.proofs.Answers.{bad, no-date, on-date}
 use borrow.Author.Needs.{needs}
 use Rattle.run_line.proofs.answer.Statement.{statement}
 use Rattle.run_line.proofs.answer.Tie as tie
@@ -69,9 +71,7 @@ refuse-requires : tie.Need-refuse-requires
 refuse-requires c κs =
     let a : tie.After-day-of = c .before .before .before .before in
     let room-is : length (now (s a .args .buffer)) ≡ room = c .refuse-arg .given .0 .1 in
-    let k : 11 ≤ length (now (s a .args .buffer)) = omega (arith, room-is) in
-    let few = date-two-digits (l a) _ (sym (a .day-of .ensures) ∙ c .before .before .n .given .1) in
-    (omega (arith, few), k)
+    omega (arith, room-is, refusal-most (c .before .before .n .given .0 .0))
 
 enum-known-d : tie.Need-enum-known-d
 enum-known-d c = search needs

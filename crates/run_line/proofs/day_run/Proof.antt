@@ -1,6 +1,6 @@
 -- `run_line::day_run` meets its contract: a run that `run::write` refuses leaves the buffer to the refusal's text, and one that it writes is the answer.
 -- Assumes nothing.
-use Prim.Native.Nat.{ℕ, _*_, _≤_}
+use Prim.Native.Nat.{ℕ, _*_}
 use mathlib.Core.Path.{_≡_, _∙_, ap, sym, refl}
 use mathlib.Core.List.{List}
 use native.Mathlib.Omega.{arith}
@@ -13,9 +13,10 @@ use Rattle.run.specs.Run.{runRefusal, runWritten}
 use Rattle.run.proofs.Refusals.{not-refused}
 use Rattle.run.proofs.Records.{run-keeps}
 use Rattle.calendar.specs.Limits.{secondMicros}
-use Rattle.run_line.specs.Words.{refusalText}
+use Rattle.text.specs.Text.{refusalText}
+use Rattle.text.proofs.Numerals.{refusal-most}
 use Rattle.run_line.specs.Answer.{room, dayRunText}
-use Rattle.run_line.proofs.Answers.{run-two-digits, no-run, a-run}
+use Rattle.run_line.proofs.Answers.{no-run, a-run}
 use borrow.Author.Needs.{needs}
 use Rattle.run_line.proofs.day_run.Statement.{statement}
 use Rattle.run_line.proofs.day_run.Tie as tie
@@ -50,9 +51,7 @@ write-requires c κs = search needs
 refuse-requires : tie.Need-refuse-requires
 refuse-requires c κs =
     let w : tie.After-write = c .before .before .before .before in
-    let a = s w .args in
-    let k : 11 ≤ length (new w) = omega (arith, long w) in
-    (rw (says w) (run-two-digits (a .day) (a .count) (a .step)), k)
+    omega (arith, long w, refusal-most (w .write .result))
 
 same-length : tie.Need-same-length
 same-length c = search needs
