@@ -10,7 +10,7 @@ use lib.ListN.{length, length-append}
 use borrow.Author.Tests.{lt-ltb, le-ltb, ltb-true, ltb-false}
 use Rattle.text.specs.Text.{digit, numeralIn, numeral, refusalText}
 
--- a number has one digit or more
+-- a number has one digit, or more than one
 pub by-digits : {P : Type 0} (n : ℕ) → (n < 10 → P) → (10 ≤ n → P) → P
 by-digits {P} n f g = by (ltb n 10) refl
   where

@@ -2,6 +2,7 @@
 use mathlib.Core.Path.{_≡_, _∙_, ap, sym}
 use mathlib.Core.List.{List, _++_}
 use Prim.Native.Nat.{ℕ}
+use native.Mathlib.Nat.{le-trans}
 use native.Mathlib.Omega.{arith}
 use denote.Ref.{now}
 use lib.IntN.{ℤ}
@@ -71,7 +72,7 @@ refuse-requires : tie.Need-refuse-requires
 refuse-requires c κs =
     let a : tie.After-day-of = c .before .before .before .before in
     let room-is : length (now (s a .args .buffer)) ≡ room = c .refuse-arg .given .0 .1 in
-    omega (arith, room-is, refusal-most (c .before .before .n .given .0 .0))
+    le-trans (refusal-most _) (omega (arith, room-is))
 
 enum-known-d : tie.Need-enum-known-d
 enum-known-d c = search needs
