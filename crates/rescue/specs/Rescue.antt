@@ -61,13 +61,17 @@ listBytes (r ∷ rs) = entryBytes r ++ listBytes rs
 
 -- ---- the answer
 
+-- the refusals of an input by itself
+abbrev pub inputCases : List ℕ → List Case
+inputCases s = case 25 (ltb mostBytes (length s)) ∷ []
+
 -- a buffer is too short for the whole answer
 abbrev pub short : List ℕ → (n m : ℕ) → Bool
 short s n m = ltb n (recordLength * keptCount s) || ltb m (entryLength * length (rangesIn s))
 
 -- the refusals: of the input, and of the buffers
 abbrev pub rescueCases : List ℕ → (n m : ℕ) → List Case
-rescueCases s n m = case 25 (ltb mostBytes (length s)) ∷ case 12 (short s n m) ∷ []
+rescueCases s n m = inputCases s ++ case 12 (short s n m) ∷ []
 
 -- the numbers of kept records, of ranges and of passed bytes, or the first refusal
 unfoldable pub rescueOf : List ℕ → (n m : ℕ) → RescueAnswer
