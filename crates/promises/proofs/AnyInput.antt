@@ -39,6 +39,8 @@ use Rattle.record.specs.declared.ReadAnswer.the-variants.{NoRecord}
 use Rattle.record.proofs.Kept as kept
 use Rattle.run.specs.Run.{runCases, runRefusal}
 use Rattle.run.proofs.Records as records
+use Rattle.rescue.specs.Rescue.{keptCount, rangesIn}
+use Rattle.rescue.proofs.Promises.{rescue-refusal, rescue-zeroed, rescue-keeps}
 use Rattle.row_bytes.specs.Form.{bytesCases}
 use Rattle.promises.proofs.Rows.{handed-rows, rows-offsets}
 use Rattle.promises.proofs.Utc.{handed-readings, utc-to-tt, phase, handed-instants, tt-to-utc}
@@ -115,7 +117,7 @@ module _ (r : Reading) (k : Doodson) where
 
 -- PROMISE. Demand 1: any input is answered.
 pub any-input-is-answered : AnyInputIsAnswered
-unfolding outside dayOf dateOf instantOf utc.ttOf utc.utcOf splitOf joinOf zonal.zonalOf nutation.nutationOf nutation.nutationRowsOf readOf
+unfolding outside dayOf dateOf instantOf utc.ttOf utc.utcOf splitOf joinOf zonal.zonalOf nutation.nutationOf nutation.nutationRowsOf readOf keptCount rangesIn
 any-input-is-answered = record {
   date-to-day = date-to-day;
   date-to-day-numbers = λ y m d. number NoDay dateRefusalOf (dateCases y m d) _ (date-to-day y m d) tt dayNumberOr (pos 0) (λ _ _. refl) (λ _. refl);
@@ -189,4 +191,7 @@ any-input-is-answered = record {
     number NoReading utc.readingRefusalOf (instantCases d m ++ utc.momentCases (momentOf d m)) _ (handed-instants d m) tt utc.readingSecondOr 0 (λ _ _. refl) (λ _. refl),
     number NoReading utc.readingRefusalOf (instantCases d m ++ utc.momentCases (momentOf d m)) _ (handed-instants d m) tt utc.readingMicrosecondOr 0 (λ _ _. refl) (λ _. refl),
   );
+  rescue = rescue-refusal;
+  rescue-zeroed = rescue-zeroed;
+  rescue-keeps = rescue-keeps;
 }

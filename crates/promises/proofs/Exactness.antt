@@ -50,6 +50,7 @@ use Rattle.run.proofs.ReadBack.{record-place}
 use Rattle.instants.proofs.LaterInstants.{later-by}
 use Rattle.promises.specs.AnyInput.{daysWithSecond60}
 use Rattle.promises.proofs.Utc.{eves}
+use Rattle.promises.proofs.Rescued.{rescued-exactly}
 use Rattle.promises.specs.Exactness.{KeepsRules, Exactness}
 
 -- ---- some readings and instants, computed
@@ -157,4 +158,5 @@ exactness = record {
   a-second-60 = readings .1;
   first-and-last = (reading-there-and-back _ _ (readings .2), reading-there-and-back _ _ (readings .3));
   before-and-after = before-and-after;
+  rescued = rescued-exactly;
 }

@@ -2,7 +2,7 @@
 -- the call of one number gives 0, the call of the whole answer leaves every number as it stood, and no lent byte changes; without one the whole answer
 -- leaves the numbers that their own calls give. That each exported call gives these for every input is its contract (crates/enfysgar/src).
 -- The rules are written out here a second time, with their figures and apart from the lists and limits of the definitions (the length of a month, the
--- mark, numbers and sums in bytes, that some row of a table has a fault, and a later day are theirs): first when each refusal is given, then for each
+-- mark, numbers and sums in bytes, that some row of a table has a fault, a later day, and what a rescue keeps and passes are theirs): first when each refusal is given, then for each
 -- service its refusals in their order.
 use Prim.Native.Nat.{ℕ, _+_, _-_, _*_, _/_, _%_}
 use mathlib.Core.Path.{_≡_}
@@ -32,6 +32,8 @@ use Rattle.bigendian.specs.Numbers.{numberAt, wordSum, signedOf}
 use Rattle.rows.specs.Table.{someBelow}
 use Rattle.record.specs.Records.{writeRefusal, written, readOf, recordDayOf, recordDayOr, recordMicrosOf, recordMicrosOr, recordUt1Of, recordUt1Or, recordLodOf, recordLodOr, recordRateOf, recordRateOr, readRefusalOf}
 use Rattle.run.specs.Run.{runRefusal, runWritten}
+use Rattle.rescue.specs.Walk.{walk, rangesOf}
+use Rattle.rescue.specs.Rescue.{rescueOf, recordsAfter, listAfter, keptOf, rangesNumberOf, passedOf, rescueRefusalOf}
 
 -- ---- when each number is given
 
@@ -192,6 +194,14 @@ abbrev pub refusal24 : List ℕ → Case
 refusal24 s =
     case 24 (someBelow (tableRows s) (λ i. beyond (tableXC s i) || (beyond (tableXS s i) || (ltZ (tableUncertainty s i) (pos 1) || ltZ (pos 100_000) (tableUncertainty s i)))))
 
+-- an input of more than 65,536 bytes
+abbrev pub refusal25 : List ℕ → Case
+refusal25 s = case 25 (ltb 65536 (length s))
+
+-- two buffers of n and m bytes, of which one or both are shorter than is needed
+abbrev pub refusal12-two : (n needed m needed′ : ℕ) → Case
+refusal12-two n needed m needed′ = case 12 (ltb n needed || ltb m needed′)
+
 -- ---- the demand: each service by its list, its numbers, bytes that stay
 
 -- One number of the answer a: `value a` is what its own call gives, and `left old a` what the call of the whole answer leaves where `old` stood.
@@ -274,3 +284,10 @@ pub record AnyInputIsAnswered : Type 0 where
       × Number utc.readingRefusalOf utc.readingMinuteOf utc.readingMinuteOr 0 (utc.utcOf d m)
       × Number utc.readingRefusalOf utc.readingSecondOf utc.readingSecondOr 0 (utc.utcOf d m)
       × Number utc.readingRefusalOf utc.readingMicrosecondOf utc.readingMicrosecondOr 0 (utc.utcOf d m)
+  -- (i) rescue
+  pub rescue : (s : List ℕ) (n m : ℕ) → rescueRefusalOf (rescueOf s n m)
+      ≡ firstRefusal (refusal25 s ∷ refusal12-two n (30 * length (walk s .kept)) m (8 * length (rangesOf (walk s .passed))) ∷ [])
+  pub rescue-zeroed : (s : List ℕ) (n m : ℕ) → (rescueRefusalOf (rescueOf s n m) ≡ 0 → ⊥)
+      → (keptOf (rescueOf s n m) ≡ 0) × (rangesNumberOf (rescueOf s n m) ≡ 0) × (passedOf (rescueOf s n m) ≡ 0)
+  pub rescue-keeps : (s records list : List ℕ) → (rescueRefusalOf (rescueOf s (length records) (length list)) ≡ 0 → ⊥)
+      → (recordsAfter s (length list) records ≡ records) × (listAfter s (length records) list ≡ list)

@@ -1,5 +1,5 @@
 -- Demand 2: exactness. Dates each way; frequency and phase; records read back; clock words joined exactly when they are of one day; rows from the caller
--- read as they were written; the lookup of rows, and the number of its probes; UTC readings and instants each way.
+-- read as they were written; the lookup of rows, and the number of its probes; UTC readings and instants each way; records rescued.
 use Prim.Native.Nat.{ℕ, suc, _+_, _*_, _-_, _/_, _^_, _≤_, _<_}
 use mathlib.Core.Path.{_≡_}
 use mathlib.Core.Bool.{false}
@@ -29,6 +29,7 @@ use Rattle.utc.specs.Claims.{tableRule, evesOf, instantSecondLater, nextSecond}
 use Rattle.utc.specs.declared.Reading.{Reading}
 use Rattle.utc.specs.declared.ReadingAnswer.the-variants.{AtReading, NoReading}
 use Rattle.promises.specs.AnyInput.{daysWithSecond60}
+use Rattle.promises.specs.Rescued.{RescuedExactly}
 use Rattle.clock.specs.Words.{words, timeWord, splitOf, joinOf}
 use Rattle.clock.specs.declared.SplitAnswer.the-variants.{Split}
 use Rattle.clock.specs.declared.JoinAnswer.the-variants.{Joined, NoJoin}
@@ -172,3 +173,5 @@ pub record Exactness : Type 0 where
   pub a-second-60 : ttOf (reading 2016 12 31 23 59 60 500_000) ≡ AtInstant (instant (pos 57754) 68_684_000)
   pub first-and-last : (utcOf (pos 41317) 42_184_000 ≡ AtReading (reading 1972 1 1 0 0 0 0)) × (utcOf (pos 60854) 69_183_999 ≡ AtReading (reading 2025 6 27 23 59 59 999_999))
   pub before-and-after : (utcOf (pos 41317) 42_183_999 ≡ NoReading 19) × (utcOf (pos 60854) 69_184_000 ≡ NoReading 20)
+  -- (i) records are rescued exactly (Rescued.antt)
+  pub rescued : RescuedExactly

@@ -11,3 +11,4 @@ pub mod Answers
 pub mod Whole
 pub mod Damage
 pub mod Promises
+pub mod Examples

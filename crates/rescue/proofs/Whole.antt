@@ -7,8 +7,8 @@ use native.Mathlib.Omega.{arith}
 use lib.ListN.{length, take, drop}
 use lib.Seq.{take-add, take-all, drop-drop}
 use Rattle.record.specs.Format.{recordLength}
-use Rattle.rescue.specs.Walk.{Walk, recordAt, walkFrom}
-use Rattle.rescue.specs.Rescue.{keptCount, passedCount, recordsAt, keptBytes}
+use Rattle.rescue.specs.Walk.{Walk, recordAt, walkFrom, walk}
+use Rattle.rescue.specs.Rescue.{keptCount, recordsAt, keptBytes}
 use Rattle.rescue.specs.Claims.{recordPlaces, WholeRecords}
 use Rattle.rescue.proofs.Walks.{walk-ends, walk-keeps}
 
@@ -52,11 +52,11 @@ whole-walk s n w =
     )
 
 -- PROMISE. Whole records, with nothing between, are all kept, and no byte is passed.
-pub whole-kept : (s : List ℕ) (n : ℕ) → WholeRecords s n → (keptCount s ≡ n) × (keptBytes s ≡ s) × (passedCount s ≡ 0)
-unfolding keptCount keptBytes passedCount
+pub whole-kept : (s : List ℕ) (n : ℕ) → WholeRecords s n → (keptCount s ≡ n) × (keptBytes s ≡ s) × (walk s .passed ≡ [])
+unfolding keptCount keptBytes
 whole-kept s n w =
     let e = whole-walk s n w in (
       ap length (e .0) ∙ places-count n 0,
       ap (recordsAt s) (e .0) ∙ (records-there n s 0 ∙ take-all (recordLength * n) s (omega (arith, w .size))),
-      ap length (e .1),
+      e .1,
     )
