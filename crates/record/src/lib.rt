@@ -115,7 +115,7 @@ pub fn write(day: i64, micros: u64, ut1: i32, lod: i32, rate: i32, buffer: &mut 
 }
 
 // The refusal of a record's head, or 0.
-fn head(s: &[u8]) -> u32
+pub fn head(s: &[u8]) -> u32
     ensures { λ r. ⌜ r ≡ headRefusal (now (s .entry)) ⌝ }
 {
     if s.len() < LENGTH {
@@ -184,7 +184,7 @@ pub fn read(s: &[u8]) -> ReadAnswer
 }
 
 // Whether what has a record's head reads as a record.
-fn reads_behind(s: &[u8]) -> bool
+pub fn reads_behind(s: &[u8]) -> bool
     requires { ⌜ headRefusal (now s) ≡ 0 ⌝ }
     ensures { λ r. ⌜ r ≡ isRecord (readOf (now (s .entry))) ⌝ }
 {

@@ -22,10 +22,10 @@ use Rattle.rescue.specs.Walk.{Walk, range, recordAt, walkFrom, rangesOf}
 use Rattle.rescue.specs.Rescue.{keptCount, passedCount, rangesIn, recordsAt, keptBytes}
 use Rattle.rescue.specs.Claims.{placesFrom, recordPlaces, WholeRecords}
 use Rattle.rescue.proofs.Walks.{walk-ends}
-use Rattle.rescue.proofs.Hops.{over}
+use Rattle.rescue.proofs.Hops.{over, all-kept}
 use Rattle.rescue.proofs.Ranges.{joined-places}
 use Rattle.rescue.proofs.Entries.{records-append}
-use Rattle.rescue.proofs.Whole.{all-kept, records-there, places-count}
+use Rattle.rescue.proofs.Whole.{records-there, places-count}
 
 -- ---- one byte and the records around it
 

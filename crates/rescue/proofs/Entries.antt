@@ -1,18 +1,18 @@
--- The bytes of an answer: an entry is two numbers put one behind the other, and a record is a copy; how long they are. Assumes nothing.
+-- The bytes of an answer: an entry is two numbers put one behind the other; how long lists and records are. Assumes nothing.
 use Prim.Native.Nat.{ℕ, _+_, _-_, _*_, _<_, _≤_}
 use mathlib.Core.Path.{_≡_, refl, ap, sym, _∙_}
-use mathlib.Core.List.{List, [], _∷_, _++_, append-nil, append-assoc}
+use mathlib.Core.List.{List, [], _∷_, _++_, append-assoc}
 use native.Mathlib.Omega.{arith}
 use lib.ListN.{length, take, drop, length-append, length-drop}
 use lib.Seq.{length-take-le, drop-drop}
 use borrow.Author.Tests.{lt-ltb, le-ltb}
 use Rattle.bigendian.specs.Numbers.{bytesOf}
 use Rattle.bigendian.specs.Buffers.{atFront}
-use Rattle.bigendian.proofs.Buffers.{front-none, front-copy}
+use Rattle.bigendian.proofs.Buffers.{front-none}
 use Rattle.record.specs.Format.{recordLength}
 use Rattle.rescue.specs.Walk.{Range, range}
 use Rattle.rescue.specs.Rescue.{entryLength, recordsAt, listBytes}
-use Rattle.rescue.specs.Inner.{rangeTo, placeIn}
+use Rattle.rescue.specs.Inner.{rangeTo}
 use Rattle.rescue.specs.Claims.{Each}
 
 -- ---- an entry
@@ -59,27 +59,3 @@ records-length s (i ∷ is) h =
 pub records-append : (s is js : List ℕ) → recordsAt s (is ++ js) ≡ recordsAt s is ++ recordsAt s js
 records-append s [] js = refl
 records-append s (i ∷ is) js = ap (λ (l : List ℕ). take recordLength (drop i s) ++ l) (records-append s is js) ∙ sym (append-assoc (take recordLength (drop i s)) (recordsAt s is) (recordsAt s js))
-
--- what is copied for a record, and at the end
-module _ (s : List ℕ) (i : ℕ) (old : List ℕ) where
-  -- the part that is lent
-  abbrev part : List ℕ
-  part = take (i + recordLength - i) (drop i s)
-
-  pub part-is : part ≡ take recordLength (drop i s)
-  part-is = let e : i + recordLength - i ≡ recordLength = omega arith in ap (λ (n : ℕ). take n (drop i s)) e
-
-  pub part-length : i + recordLength ≤ length s → length part ≡ recordLength
-  part-length h = ap length part-is ∙ length-take-le recordLength (drop i s) (omega (arith, length-drop i s))
-
-  pub record-room : i < length s → recordLength * length (placeIn s i) ≡ recordLength
-  record-room h = rw (lt-ltb i (length s) h) refl
-
-  pub record-kept : (new : List ℕ) (r : ℕ) → i < length s → i + recordLength ≤ length s → r ≡ length part → new ≡ take (length part) part ++ drop (length part) old
-      → (r ≡ recordLength * length (placeIn s i)) × (new ≡ atFront (recordsAt s (placeIn s i)) old)
-  record-kept new r l h p q =
-      rw (lt-ltb i (length s) l)
-      (p ∙ part-length h, q ∙ (front-copy part old ∙ ap (λ (b : List ℕ). atFront b old) (part-is ∙ sym (append-nil (take recordLength (drop i s))))))
-
-  pub record-none : length s ≤ i → (0 ≡ recordLength * length (placeIn s i)) × (old ≡ atFront (recordsAt s (placeIn s i)) old)
-  record-none h = rw (le-ltb i (length s) h) (refl, sym (front-none old))

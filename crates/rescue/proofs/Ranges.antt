@@ -1,10 +1,11 @@
 -- Ranges. Places side by side, before ranges that start further on, are one range more. The ranges of a walk start at or behind the place it starts
 -- from, so each hop adds one range at most; they are apart, and their places are the passed ones. Assumes nothing.
 use Prim.Native.Nat.{ℕ, zero, suc, _+_, _-_, _*_, _<_, _≤_}
-use mathlib.Core.Path.{_≡_, refl, ap, subst, _∙_}
+use mathlib.Core.Path.{_≡_, refl, ap, sym, subst, _∙_}
 use mathlib.Core.Bool.{Bool, true, false, cond}
 use mathlib.Core.List.{List, [], _∷_, _++_}
 use native.Mathlib.Omega.{arith}
+use native.Mathlib.Decide.{decLt}
 use native.Mathlib.Numerals.{add-one}
 use lib.Dec.{eqb, ltb}
 use lib.ListN.{length}
@@ -14,8 +15,8 @@ use Rattle.rescue.specs.Walk.{Range, range, Walk, recordAt, ended, keepi
 use Rattle.rescue.specs.Rescue.{rangesIn}
 use Rattle.rescue.specs.Inner.{Hop, rangeTo}
 use Rattle.rescue.specs.Claims.{placesFrom, placesOf, StartsAfter, Apart}
-use Rattle.rescue.proofs.Hops.{walk-hops}
-use Rattle.rescue.proofs.Walks.{walk-case}
+use Rattle.rescue.proofs.Hops.{hop-passed}
+use Rattle.rescue.proofs.Walks.{walk-ends, walk-keeps, walk-case}
 
 -- ---- places side by side
 
@@ -98,12 +99,20 @@ spaced s =
     (λ i w e h p. joined-spaced (length s) i (rangesOf (w .passed)) h p)
 
 -- a hop adds a range, or none
-pub ranges-hop : (s : List ℕ) (i j : ℕ) → Hop s i j → rangesOf (walkFrom s i .passed) ≡ rangeTo i j ++ rangesOf (walkFrom s (j + recordLength) .passed)
-ranges-hop s i j h =
-    let e : i + (j - i) ≡ j = omega (arith, h .onward) in
-    let g = starts-after (i + (j - i)) (j + recordLength) (rangesOf (walkFrom s (j + recordLength) .passed)) (omega arith) (spaced s (j + recordLength) .from) in
-    ap rangesOf (walk-hops s i j h .1)
-    ∙ (joined-places (j - i) i (walkFrom s (j + recordLength) .passed) g ∙ ap (λ (k : ℕ). rangeTo i k ++ rangesOf (walkFrom s (j + recordLength) .passed)) e)
+pub hop-ranges : (s : List ℕ) (i j : ℕ) → Hop s i j → rangesOf (walkFrom s i .passed) ≡ rangeTo i j ++ rangesOf (walkFrom s j .passed)
+unfolding rangesOf
+hop-ranges s i j h =
+    let q : i + (j - i) ≡ j = omega (arith, h .onward) in
+    ap rangesOf (hop-passed s i j h)
+    ∙ (joined-places (j - i) i (walkFrom s j .passed) (subst (λ (k : ℕ). StartsAfter k (rangesOf (walkFrom s j .passed))) (sym q) (gap (decLt j (length s))))
+    ∙ ap (λ (k : ℕ). rangeTo i k ++ rangesOf (walkFrom s j .passed)) q)
+  where
+    -- a record is behind it, or the end
+    gap : Dec (j < length s) → StartsAfter j (rangesOf (walkFrom s j .passed))
+    gap (yes l) =
+        subst (λ (x : Walk). StartsAfter j (rangesOf (x .passed))) (sym (walk-keeps s j (h .found l)))
+        (starts-after j (j + recordLength) (rangesOf (walkFrom s (j + recordLength) .passed)) (omega arith) (spaced s (j + recordLength) .from))
+    gap (no l) = subst (λ (x : Walk). StartsAfter j (rangesOf (x .passed))) (sym (walk-ends s j (omega (arith, l)))) tt
 
 -- ---- what they are
 

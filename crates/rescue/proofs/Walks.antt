@@ -15,8 +15,6 @@ use Rattle.record.specs.Format.{recordLength}
 use Rattle.record.specs.Records.{readOf, isRecord}
 use Rattle.record.proofs.Forms.{was-read}
 use Rattle.rescue.specs.Walk.{Walk, recordAt, ended, keeping, passing, stepping, walkFrom}
-use Rattle.rescue.specs.Inner.{Hop, placeIn}
-use Rattle.rescue.specs.Claims.{placesFrom}
 
 -- ---- a record takes thirty bytes
 

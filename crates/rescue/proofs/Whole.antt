@@ -1,8 +1,7 @@
 -- Whole records one behind the other are all kept: each is met where the one before it ends. Assumes nothing.
-use Prim.Native.Nat.{ℕ, zero, suc, _+_, _*_, _<_}
+use Prim.Native.Nat.{ℕ, zero, suc, _+_, _*_}
 use mathlib.Core.Path.{_≡_, refl, ap, sym, _∙_}
-use mathlib.Core.Bool.{true}
-use mathlib.Core.List.{List, [], _∷_, _++_, append-nil}
+use mathlib.Core.List.{List, [], _++_, append-nil}
 use native.Mathlib.Omega.{arith}
 use lib.ListN.{length, take, drop}
 use lib.Seq.{take-add, take-all, drop-drop}
@@ -10,26 +9,10 @@ use Rattle.record.specs.Format.{recordLength}
 use Rattle.rescue.specs.Walk.{Walk, recordAt, walkFrom, walk}
 use Rattle.rescue.specs.Rescue.{keptCount, recordsAt, keptBytes}
 use Rattle.rescue.specs.Claims.{recordPlaces, WholeRecords}
-use Rattle.rescue.proofs.Walks.{walk-ends, walk-keeps}
+use Rattle.rescue.proofs.Walks.{walk-ends}
+use Rattle.rescue.proofs.Hops.{all-kept}
 
--- ---- records one behind the other
-
--- n records from place i on are kept
-pub all-kept : (n : ℕ) (s : List ℕ) (i : ℕ) → ((k : ℕ) → k < n → recordAt s (i + recordLength * k) ≡ true)
-    → (walkFrom s i .kept ≡ recordPlaces i n ++ walkFrom s (i + recordLength * n) .kept) × (walkFrom s i .passed ≡ walkFrom s (i + recordLength * n) .passed)
-all-kept zero s i h =
-    let e : i ≡ i + recordLength * 0 = omega arith in
-    (ap (λ (j : ℕ). walkFrom s j .kept) e, ap (λ (j : ℕ). walkFrom s j .passed) e)
-all-kept (suc n) s i h =
-    let e : i + recordLength * 0 ≡ i = omega arith in
-    let f : i + recordLength + recordLength * n ≡ i + recordLength * suc n = omega arith in
-    let w = walk-keeps s i (ap (recordAt s) (sym e) ∙ h 0 (omega arith)) in
-    let r = all-kept n s (i + recordLength) (λ k l. let g : i + recordLength + recordLength * k ≡ i + recordLength * suc k = omega arith in ap (recordAt s) g ∙ h (suc k) (omega arith)) in (
-      ap (λ (x : Walk). x .kept) w ∙ ap (λ (l : List ℕ). i ∷ l) (r .0 ∙ ap (λ (j : ℕ). recordPlaces (i + recordLength) n ++ walkFrom s j .kept) f),
-      ap (λ (x : Walk). x .passed) w ∙ (r .1 ∙ ap (λ (j : ℕ). walkFrom s j .passed) f),
-    )
-
--- they are the bytes there
+-- the records at places thirty apart are the bytes there
 pub records-there : (n : ℕ) (s : List ℕ) (i : ℕ) → recordsAt s (recordPlaces i n) ≡ take (recordLength * n) (drop i s)
 records-there zero s i = refl
 records-there (suc n) s i =

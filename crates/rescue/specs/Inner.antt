@@ -1,5 +1,5 @@
 -- What only the contracts of the code's own functions cite.
-use Prim.Native.Nat.{ℕ, _-_, _*_, _<_, _≤_}
+use Prim.Native.Nat.{ℕ, _+_, _-_, _*_, _<_, _≤_}
 use mathlib.Core.Path.{_≡_}
 use mathlib.Core.Bool.{true, false, cond}
 use mathlib.Core.List.{List, [], _∷_}
@@ -16,13 +16,16 @@ pub record Hop (s : List ℕ) (i j : ℕ) : Type 0 where
   pub passed : (k : ℕ) → i ≤ k → k < j → recordAt s k ≡ false
   pub found : j < length s → recordAt s j ≡ true
 
+-- from place i on records follow each other up to j, where none stands
+pub record Chain (s : List ℕ) (i j : ℕ) : Type 0 where
+  pub count : ℕ
+  pub end : j ≡ i + recordLength * count
+  pub reads : (k : ℕ) → k < count → recordAt s (i + recordLength * k) ≡ true
+  pub ended : recordAt s j ≡ false
+
 -- the range of the places from i to j, without j, if there is one
 abbrev pub rangeTo : (i j : ℕ) → List Range
 rangeTo i j = cond (ltb i j) (range i (j - i) ∷ []) []
-
--- the place j, if it is not the end
-abbrev pub placeIn : List ℕ → ℕ → List ℕ
-placeIn s j = cond (ltb j (length s)) (j ∷ []) []
 
 -- what is asked of an input and of two buffers that are filled
 pub record Fits (s : List ℕ) (n m : ℕ) : Type 0 where

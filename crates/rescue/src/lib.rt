@@ -2,13 +2,11 @@
 use record::LENGTH;
 ghost use mathlib.Core.Path.{_≡_};
 ghost use mathlib.Core.Bool.{cond};
-ghost use Prim.Native.Nat.{_+_, _-_, _*_, _≤_, _<_};
+ghost use Prim.Native.Nat.{_*_, _≤_};
 ghost use lib.ListN.{length};
 ghost use Rattle.bigendian.specs.Buffers.{atFront};
-ghost use Rattle.record.specs.Format.{recordLength};
-ghost use Rattle.rescue.specs.Walk.{rangesOf};
-ghost use Rattle.rescue.specs.Rescue.{mostBytes, entryLength, countsOf, recordsAt, keptBytes, listBytes, rangesIn, rescueOf, recordsAfter, listAfter, rescueRefusalOf};
-ghost use Rattle.rescue.specs.Inner.{Hop, rangeTo, placeIn, Fits};
+ghost use Rattle.rescue.specs.Rescue.{mostBytes, entryLength, countsOf, keptBytes, listBytes, rangesIn, rescueOf, recordsAfter, listAfter, rescueRefusalOf};
+ghost use Rattle.rescue.specs.Inner.{Hop, Chain, rangeTo, Fits};
 
 // The most bytes of an input.
 pub const MOST_BYTES: usize = 65_536;
@@ -46,6 +44,24 @@ pub fn next_record(s: &[u8], from: usize) -> usize
     at
 }
 
+// The end of the records that follow each other from `from` on.
+pub fn records_end(s: &[u8], from: usize) -> usize
+    requires { ⌜ from ≤ length (now s) ⌝ }
+    ensures { λ r. ⌜ Chain (now (s .entry)) from r ⌝ }
+{
+    let mut at = from;
+    while at < s.len() {
+        if record::head(&s[at..]) != 0 {
+            return at;
+        }
+        if !record::reads_behind(&s[at..]) {
+            return at;
+        }
+        at += LENGTH;
+    }
+    at
+}
+
 // 1 for true, 0 for false.
 fn one_if(b: bool) -> u64
     ensures { λ r. ⌜ r ≡ cond b 1 0 ⌝ }
@@ -58,19 +74,19 @@ fn count(s: &[u8]) -> Counts
     requires { ⌜ length (now s) ≤ mostBytes ⌝ }
     ensures { λ r. ⌜ r ≡ countsOf (now (s .entry)) ⌝ }
 {
-    let mut kept: u64 = 0;
-    let mut ranges: u64 = 0;
     let mut at: usize = 0;
+    let mut kept: usize = 0;
+    let mut ranges: u64 = 0;
     while at < s.len() {
-        let to = next_record(s, at);
-        ranges += one_if(at < to);
-        kept += one_if(to < s.len());
-        at = to + LENGTH;
+        let from = next_record(s, at);
+        ranges += one_if(at < from);
+        at = records_end(s, from);
+        kept += at - from;
     }
     Counts {
-        kept: kept,
+        kept: (kept / LENGTH) as u64,
         ranges: ranges,
-        passed: (s.len() as u64) - (LENGTH as u64) * kept,
+        passed: (s.len() - kept) as u64,
     }
 }
 
@@ -102,20 +118,6 @@ fn put_range(from: usize, to: usize, list: &mut [u8]) -> usize
     0
 }
 
-// Copies the record at a place of s, if that is not the end, to the front of the buffer, and returns its bytes.
-fn keep(s: &[u8], at: usize, buffer: &mut [u8]) -> usize
-    requires within { ⌜ at + recordLength * length (placeIn (now s) at) ≤ length (now s) ⌝ }
-    requires room { ⌜ recordLength * length (placeIn (now s) at) ≤ length (now buffer) ⌝ }
-    ensures size { λ r. ⌜ r ≡ recordLength * length (placeIn (now (s .entry)) at) ⌝ }
-    ensures buffer { λ _. ⌜ now (buffer .exit) ≡ atFront (recordsAt (now (s .entry)) (placeIn (now (s .entry)) at)) (now (buffer .entry)) ⌝ }
-{
-    if at < s.len() {
-        let end = at + LENGTH;
-        return bytes::copy(&s[at..end], buffer);
-    }
-    0
-}
-
 // Writes the kept records and the list of ranges, where both fit.
 fn fill(s: &[u8], records: &mut [u8], list: &mut [u8])
     requires { ⌜ Fits (now s) (length (now records)) (length (now list)) ⌝ }
@@ -126,10 +128,10 @@ fn fill(s: &[u8], records: &mut [u8], list: &mut [u8])
     let mut kept: usize = 0;
     let mut listed: usize = 0;
     while at < s.len() {
-        let to = next_record(s, at);
-        listed += put_range(at, to, &mut list[listed..]);
-        kept += keep(s, to, &mut records[kept..]);
-        at = to + LENGTH;
+        let from = next_record(s, at);
+        listed += put_range(at, from, &mut list[listed..]);
+        at = records_end(s, from);
+        kept += bytes::copy(&s[from..at], &mut records[kept..]);
     }
 }
 

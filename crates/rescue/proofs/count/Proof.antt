@@ -1,40 +1,44 @@
 -- `rescue::count` meets its contract. The invariant: what is counted, and what the walk from `at` still gives, are the whole walk's. Assumes nothing.
 use Prim.Native.Nat.{ℕ, _+_, _-_, _≤_}
 use mathlib.Core.Path.{refl}
+use mathlib.Core.List.{List}
 use native.Mathlib.Omega.{arith}
 use denote.Ref.{now}
 use lib.Dec.{ltb}
 use lib.ListN.{length}
-use Rattle.record.specs.Format.{recordLength}
 use Rattle.rescue.specs.Rescue.{mostBytes}
+use Rattle.rescue.specs.Inner.{Hop, Chain}
+use Rattle.rescue.proofs.Hops.{chain-within, turn-on}
 use Rattle.rescue.proofs.Rounds.{Counted, counted-none, counted-more, one-most, counted-few, counted-all}
 use borrow.Author.Needs.{needs}
 use Rattle.rescue.proofs.count.Statement.{statement}
 use Rattle.rescue.proofs.count.Tie as tie
 
 abbrev Inv-loop : tie.InvT-loop
-Inv-loop s kept₀ ranges₀ at₀ kept ranges at = Counted s kept ranges at
+Inv-loop s at₀ kept₀ ranges₀ at kept ranges = Counted s at kept ranges
 
 abbrev μ-loop : tie.MeasureT-loop
-μ-loop s kept₀ ranges₀ at₀ kept ranges at = length s - at
+μ-loop s at₀ kept₀ ranges₀ at kept ranges = length s - at
 
--- in a turn of the loop: what was counted before, what is added, and what is counted then
-module _ (c : tie.After-one-if2 Inv-loop μ-loop) where
-  abbrev turn : tie.In-loop Inv-loop μ-loop
-  turn = c .before .before .before
+-- in a turn of the loop: the input, the hop and the chain
+abbrev turn : tie.After-records-end Inv-loop μ-loop → tie.In-loop Inv-loop μ-loop
+turn c = c .before .before .before
 
-  abbrev to : ℕ
-  to = c .before .before .next-record .result
+abbrev bytes : tie.At-loop Inv-loop μ-loop → List ℕ
+bytes c = now (c .before .before .args .s)
 
-  more : Counted (now (turn .before .before .before .args .s)) (turn .before .loop .kept + c .one-if2 .result) (turn .before .loop .ranges + c .before .one-if .result) (to + recordLength)
-  more = counted-more to _ _ (turn .before .loop .inv) (c .before .before .next-record .ensures) (c .one-if2 .ensures) (c .before .one-if .ensures)
+hop : (c : tie.After-next-record Inv-loop μ-loop) → Hop (bytes (c .before .before)) (c .before .before .loop .at) (c .next-record .result)
+hop c = c .next-record .ensures
+
+chain : (c : tie.After-records-end Inv-loop μ-loop) → Chain (bytes (turn c .before)) (c .before .before .next-record .result) (c .records-end .result)
+chain c = c .records-end .ensures
 
 -- few are counted
-few : (c : tie.At-loop Inv-loop μ-loop) → (c .loop .kept ≤ 10000) × (c .loop .ranges ≤ 10000)
+few : (c : tie.At-loop Inv-loop μ-loop) → (c .loop .kept ≤ mostBytes) × (c .loop .ranges ≤ mostBytes) × (length (bytes c) ≤ mostBytes)
 few c =
     let f = counted-few (c .loop .inv) in
-    let h : length (now (c .before .before .args .s)) ≤ mostBytes = c .before .before .pre in
-    (omega (arith, f .0, h), omega (arith, f .1, h))
+    let h : length (bytes c) ≤ mostBytes = c .before .before .pre in
+    (omega (arith, f .0, h), omega (arith, f .1, h), h)
 
 loop-holds : tie.Need-loop-holds Inv-loop μ-loop
 loop-holds c = counted-none _
@@ -48,26 +52,23 @@ one-if-requires c κs = tt
 add-ranges : tie.Need-add-ranges Inv-loop μ-loop
 add-ranges c = record { fits = omega (arith, few (c .before .before .before) .1, one-most (ltb (c .before .before .before .loop .at) (c .before .next-record .result)) _ (c .one-if .ensures)) }
 
-one-if-requires-2 : tie.Need-one-if-requires-2 Inv-loop μ-loop
-one-if-requires-2 c κs = tt
+records-end-requires : tie.Need-records-end-requires Inv-loop μ-loop
+records-end-requires c κs = hop (c .before) .within
+
+sub-kept : tie.Need-sub-kept Inv-loop μ-loop
+sub-kept c = omega (arith, chain c .end)
 
 add-kept : tie.Need-add-kept Inv-loop μ-loop
-add-kept c = record { fits = omega (arith, few (turn c .before) .0, one-most (ltb (to c) (length (now (turn c .before .before .before .args .s)))) _ (c .one-if2 .ensures)) }
-
-add-at : tie.Need-add-at Inv-loop μ-loop
-add-at c = record { fits = omega (arith, c .before .before .next-record .ensures .within, turn c .before .before .before .pre) }
+add-kept c = record { fits = omega (arith, few (turn c .before) .0, few (turn c .before) .2, chain-within (bytes (turn c .before)) _ _ (chain c) (hop (c .before .before) .within)) }
 
 loop-less : tie.Need-loop-less Inv-loop μ-loop
-loop-less c = omega (arith, c .before .before .next-record .ensures .onward, turn c .loop-test .taken)
+loop-less c = omega (arith, turn-on (bytes (turn c .before)) _ _ _ (hop (c .before .before)) (chain c) (turn c .loop-test .taken), turn c .loop-test .taken)
 
 loop-again : tie.Need-loop-again Inv-loop μ-loop
-loop-again c = more c
+loop-again c = counted-more _ _ _ (turn c .before .loop .inv) (hop (c .before .before)) (chain c) (c .before .one-if .ensures)
 
-mul-t12 : tie.Need-mul-t12 Inv-loop μ-loop
-mul-t12 c = record { fits = omega (arith, few (c .before) .0) }
-
-sub-t13 : tie.Need-sub-t13 Inv-loop μ-loop
-sub-t13 c = omega (arith, counted-few (c .before .loop .inv) .0)
+sub-t12 : tie.Need-sub-t12 Inv-loop μ-loop
+sub-t12 c = omega (arith, counted-few (c .before .loop .inv) .0)
 
 returns : tie.Need-returns Inv-loop μ-loop
 returns c =
@@ -84,11 +85,10 @@ count-spec =
     next-record-requires
     one-if-requires
     add-ranges
-    one-if-requires-2
+    records-end-requires
+    sub-kept
     add-kept
-    add-at
     loop-less
     loop-again
-    mul-t12
-    sub-t13
+    sub-t12
     returns)
