@@ -24,14 +24,14 @@ module _ (s : List ℕ) (n m : ℕ) where
   too-many h = simp (lt-ltb mostBytes (length s) h)
 
   -- the test of the buffers, with the counts of the code
-  pub tested : (a : Counts) (b : Bool) → a ≡ countsOf s → (ltb n (recordLength * a .kept) || ltb m (entryLength * a .ranges)) ≡ b → short s n m ≡ b
-  tested a b p e = ap (λ (x : Counts). ltb n (recordLength * x .kept) || ltb m (entryLength * x .ranges)) (sym p) ∙ e
+  pub tested : (a : Counts) (b : Bool) → a ≡ countsOf s → short a n m ≡ b → short (countsOf s) n m ≡ b
+  tested a b p e = ap (λ (x : Counts). short x n m) (sym p) ∙ e
 
-  pub too-short : length s ≤ mostBytes → short s n m ≡ true → NoRescue 12 ≡ rescueOf s n m
+  pub too-short : length s ≤ mostBytes → short (countsOf s) n m ≡ true → NoRescue 12 ≡ rescueOf s n m
   unfolding rescueOf
   too-short h e = rw (le-ltb mostBytes (length s) h, e) refl
 
-  pub counted : length s ≤ mostBytes → short s n m ≡ false → Rescued (countsOf s) ≡ rescueOf s n m
+  pub counted : length s ≤ mostBytes → short (countsOf s) n m ≡ false → Rescued (countsOf s) ≡ rescueOf s n m
   unfolding rescueOf
   counted h e = rw (le-ltb mostBytes (length s) h, e) refl
 

@@ -40,10 +40,6 @@ counts-one : {A : Type 0} (b : Bool) (x : A) → length (cond b (x ∷ []) []) �
 counts-one true x = refl
 counts-one false x = refl
 
-pub one-most : (b : Bool) (n : ℕ) → n ≡ cond b 1 0 → n ≤ 1
-one-most true n e = omega arith
-one-most false n e = omega arith
-
 -- so many bytes of records, and so many ranges, are counted before place i
 pub record Counted (s : List ℕ) (i kept ranges : ℕ) : Type 0 where
   pub records : kept + recordLength * length (walkFrom s i .kept) ≡ recordLength * keptCount s

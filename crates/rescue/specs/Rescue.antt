@@ -65,13 +65,13 @@ listBytes (r ∷ rs) = entryBytes r ++ listBytes rs
 abbrev pub inputCases : List ℕ → List Case
 inputCases s = case 25 (ltb mostBytes (length s)) ∷ []
 
--- a buffer is too short for the whole answer
-abbrev pub short : List ℕ → (n m : ℕ) → Bool
-short s n m = ltb n (recordLength * keptCount s) || ltb m (entryLength * length (rangesIn s))
+-- a buffer is too short for so many records, or for so many ranges
+abbrev pub short : Counts → (n m : ℕ) → Bool
+short c n m = ltb n (recordLength * c .kept) || ltb m (entryLength * c .ranges)
 
 -- the refusals: of the input, and of the buffers
 abbrev pub rescueCases : List ℕ → (n m : ℕ) → List Case
-rescueCases s n m = inputCases s ++ case 12 (short s n m) ∷ []
+rescueCases s n m = inputCases s ++ case 12 (short (countsOf s) n m) ∷ []
 
 -- the numbers of kept records, of ranges and of passed bytes, or the first refusal
 unfoldable pub rescueOf : List ℕ → (n m : ℕ) → RescueAnswer

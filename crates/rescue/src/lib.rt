@@ -30,7 +30,7 @@ pub enum RescueAnswer {
 }
 
 // The next place, from `from` on, at which a record stands, or the end.
-pub fn next_record(s: &[u8], from: usize) -> usize
+fn next_record(s: &[u8], from: usize) -> usize
     requires { ⌜ from ≤ length (now s) ⌝ }
     ensures { λ r. ⌜ Hop (now (s .entry)) from r ⌝ }
 {
@@ -45,7 +45,7 @@ pub fn next_record(s: &[u8], from: usize) -> usize
 }
 
 // The end of the records that follow each other from `from` on.
-pub fn records_end(s: &[u8], from: usize) -> usize
+fn records_end(s: &[u8], from: usize) -> usize
     requires { ⌜ from ≤ length (now s) ⌝ }
     ensures { λ r. ⌜ Chain (now (s .entry)) from r ⌝ }
 {
@@ -64,7 +64,8 @@ pub fn records_end(s: &[u8], from: usize) -> usize
 
 // 1 for true, 0 for false.
 fn one_if(b: bool) -> u64
-    ensures { λ r. ⌜ r ≡ cond b 1 0 ⌝ }
+    ensures number { λ r. ⌜ r ≡ cond b 1 0 ⌝ }
+    ensures most { λ r. ⌜ r ≤ 1 ⌝ }
 {
     if b { 1 } else { 0 }
 }

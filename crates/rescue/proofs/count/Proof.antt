@@ -4,12 +4,11 @@ use mathlib.Core.Path.{refl}
 use mathlib.Core.List.{List}
 use native.Mathlib.Omega.{arith}
 use denote.Ref.{now}
-use lib.Dec.{ltb}
 use lib.ListN.{length}
 use Rattle.rescue.specs.Rescue.{mostBytes}
 use Rattle.rescue.specs.Inner.{Hop, Chain}
 use Rattle.rescue.proofs.Hops.{chain-within, turn-on}
-use Rattle.rescue.proofs.Rounds.{Counted, counted-none, counted-more, one-most, counted-few, counted-all}
+use Rattle.rescue.proofs.Rounds.{Counted, counted-none, counted-more, counted-few, counted-all}
 use borrow.Author.Needs.{needs}
 use Rattle.rescue.proofs.count.Statement.{statement}
 use Rattle.rescue.proofs.count.Tie as tie
@@ -50,7 +49,7 @@ one-if-requires : tie.Need-one-if-requires Inv-loop μ-loop
 one-if-requires c κs = tt
 
 add-ranges : tie.Need-add-ranges Inv-loop μ-loop
-add-ranges c = record { fits = omega (arith, few (c .before .before .before) .1, one-most (ltb (c .before .before .before .loop .at) (c .before .next-record .result)) _ (c .one-if .ensures)) }
+add-ranges c = record { fits = omega (arith, few (c .before .before .before) .1, c .one-if .ensures .1) }
 
 records-end-requires : tie.Need-records-end-requires Inv-loop μ-loop
 records-end-requires c κs = hop (c .before) .within
@@ -65,7 +64,7 @@ loop-less : tie.Need-loop-less Inv-loop μ-loop
 loop-less c = omega (arith, turn-on (bytes (turn c .before)) _ _ _ (hop (c .before .before)) (chain c) (turn c .loop-test .taken), turn c .loop-test .taken)
 
 loop-again : tie.Need-loop-again Inv-loop μ-loop
-loop-again c = counted-more _ _ _ (turn c .before .loop .inv) (hop (c .before .before)) (chain c) (c .before .one-if .ensures)
+loop-again c = counted-more _ _ _ (turn c .before .loop .inv) (hop (c .before .before)) (chain c) (c .before .one-if .ensures .0)
 
 sub-t12 : tie.Need-sub-t12 Inv-loop μ-loop
 sub-t12 c = omega (arith, counted-few (c .before .loop .inv) .0)

@@ -23,7 +23,7 @@ put-requires-2 : tie.Need-put-requires-2
 put-requires-2 c κs =
     let y : tie.After-put = c .before .before .before in
     let a : tie.After-put-arg = y .before in
-    let k : entryLength ≤ length (y .put .last .0) = omega (arith, room a, number-put (a .before .before .before .args .from) (now (a .before .before .before .args .list)) _ (omega (arith, room a)) (y .put .ensures)) in
+    let k : entryLength ≤ length (y .put .last .0) = omega (arith, room a, number-put _ (now (a .before .before .before .args .list)) _ (omega (arith, room a)) (y .put .ensures)) in
     k
 
 same-length : tie.Need-same-length
