@@ -78,8 +78,9 @@ static struct row {
     {"rescue: 2184 clean records", rescue_clean, rescue_clean_plain, 1.5, CLEAN_BYTES, 0, 0},
     {"rescue: one record in ten damaged", rescue_damaged, rescue_damaged_plain, 2.5, CLEAN_BYTES, 0, 0},
     {"rescue: 65536 bytes of noise", rescue_noise, rescue_noise_plain, 0, ENFYS_RESCUE_MOST, 0, 0},
-    {"rescue: damaged, against one by memchr", rescue_damaged, rescue_damaged_memchr, 0, CLEAN_BYTES, 0, 0},
-    {"rescue: noise, against one by memchr", rescue_noise, rescue_noise_memchr, 0, ENFYS_RESCUE_MOST, 0, 0},
+    {"rescue: clean, against loads of eight bytes", rescue_clean, rescue_clean_loads, 0, CLEAN_BYTES, 0, 0},
+    {"rescue: damaged, against the same", rescue_damaged, rescue_damaged_loads, 0, CLEAN_BYTES, 0, 0},
+    {"rescue: noise, against memchr", rescue_noise, rescue_noise_memchr, 0, ENFYS_RESCUE_MOST, 0, 0},
 };
 
 #define ROWS (sizeof rows / sizeof *rows)
@@ -217,15 +218,15 @@ static int same_rows(uint8_t *rows, size_t length, int i)
     return same;
 }
 
-/* Whether the library and either of plain_rescue.h rescue the same, to the last byte of buffers of these sizes. */
+/* Whether the library and each of plain_rescue.h rescue the same, to the last byte of buffers of these sizes. */
 static int same_rescue(const uint8_t *image, size_t length, size_t records_length, size_t ranges_length)
 {
-    static rescue_call *const call[3] = {enfys_rescue, rescue_plain, rescue_plain_memchr};
-    static uint8_t records[3][sizeof kept], list[3][sizeof ranges];
-    uint32_t refusal[3];
+    static rescue_call *const call[4] = {enfys_rescue, rescue_plain, rescue_plain_loads, rescue_plain_memchr};
+    static uint8_t records[4][sizeof kept], list[4][sizeof ranges];
+    uint32_t refusal[4];
     int same = 1;
 
-    for (int i = 0; i < 3; i++) {
+    for (int i = 0; i < 4; i++) {
         memset(records[i], 1, sizeof kept);
         memset(list[i], 2, sizeof ranges);
         refusal[i] = call[i](image, length, records[i], records_length, list[i], ranges_length);

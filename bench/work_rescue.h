@@ -21,44 +21,21 @@ __attribute__((always_inline)) static inline double rescue_of(rescue_call *call,
     return call(image, length, kept, sizeof kept, ranges, sizeof ranges) + (double)kept[29] + (double)ranges[7];
 }
 
-static double rescue_clean(int i)
-{
-    return rescue_of(enfys_rescue, clean[i % IMAGES], CLEAN_BYTES);
-}
+/* The work of a call on an image. */
+#define RESCUE(name, call, image, length)                  \
+    static double name(int i)                              \
+    {                                                      \
+        return rescue_of(call, image[i % IMAGES], length); \
+    }
 
-static double rescue_clean_plain(int i)
-{
-    return rescue_of(rescue_plain, clean[i % IMAGES], CLEAN_BYTES);
-}
-
-static double rescue_damaged(int i)
-{
-    return rescue_of(enfys_rescue, damaged[i % IMAGES], CLEAN_BYTES);
-}
-
-static double rescue_damaged_plain(int i)
-{
-    return rescue_of(rescue_plain, damaged[i % IMAGES], CLEAN_BYTES);
-}
-
-static double rescue_damaged_memchr(int i)
-{
-    return rescue_of(rescue_plain_memchr, damaged[i % IMAGES], CLEAN_BYTES);
-}
-
-static double rescue_noise(int i)
-{
-    return rescue_of(enfys_rescue, noise[i % IMAGES], ENFYS_RESCUE_MOST);
-}
-
-static double rescue_noise_plain(int i)
-{
-    return rescue_of(rescue_plain, noise[i % IMAGES], ENFYS_RESCUE_MOST);
-}
-
-static double rescue_noise_memchr(int i)
-{
-    return rescue_of(rescue_plain_memchr, noise[i % IMAGES], ENFYS_RESCUE_MOST);
-}
+RESCUE(rescue_clean, enfys_rescue, clean, CLEAN_BYTES)
+RESCUE(rescue_clean_plain, rescue_plain, clean, CLEAN_BYTES)
+RESCUE(rescue_clean_loads, rescue_plain_loads, clean, CLEAN_BYTES)
+RESCUE(rescue_damaged, enfys_rescue, damaged, CLEAN_BYTES)
+RESCUE(rescue_damaged_plain, rescue_plain, damaged, CLEAN_BYTES)
+RESCUE(rescue_damaged_loads, rescue_plain_loads, damaged, CLEAN_BYTES)
+RESCUE(rescue_noise, enfys_rescue, noise, ENFYS_RESCUE_MOST)
+RESCUE(rescue_noise_plain, rescue_plain, noise, ENFYS_RESCUE_MOST)
+RESCUE(rescue_noise_memchr, rescue_plain_memchr, noise, ENFYS_RESCUE_MOST)
 
 #endif

@@ -1,10 +1,10 @@
 #!/usr/bin/env python3
-"""Six documents (DOCUMENTS) cite only what exists, and all of what they should; links of README.md and docs/ lead somewhere.
+"""Seven documents (DOCUMENTS) cite only what exists, and all of what they should; links of README.md and docs/ lead somewhere.
 
     tools/cited.py [ROOT] [--self-test]
 
 Names in backticks are defined in crates/ or include/enfysgar.h, paths exist, and a name stands in the file that is named with it. In docs/PROMISES.md each field of the
-three demands and each theorem marked PROMISE is cited; in docs/WRONG_ROWS.md each must-fail edit of the crates ROWS, in docs/WRONG_PROGRAMS.md each other one. With
+three demands and each theorem marked PROMISE is cited; in each document of APART each must-fail edit of its crates, in docs/WRONG_PROGRAMS.md each other one. With
 --self-test mistakes are then planted one by one, in memory, and each of them must be noticed."""
 
 import re
@@ -14,8 +14,8 @@ from functools import lru_cache
 from fnmatch import fnmatchcase
 from pathlib import Path
 
-DOCUMENTS = ["PROMISES", "RULES", "DECISIONS", "WRONG_PROGRAMS", "WRONG_ROWS", "WRONG_CALLS"]
-ROWS = ("rows/", "row_bytes/", "row_places/", "nutation/")
+DOCUMENTS = ["PROMISES", "RULES", "DECISIONS", "WRONG_PROGRAMS", "WRONG_ROWS", "WRONG_RESCUE", "WRONG_CALLS"]
+APART = {"WRONG_ROWS": ("rows/", "row_bytes/", "row_places/", "nutation/"), "WRONG_RESCUE": ("rescue/", "rescue_lines/")}
 # words in backticks that are no names of ours: keywords, the C library's, the kit's, what the program writes, placeholders
 NO_NAMES = {"requires", "fmod", "must-fail", "RT_JOBS", "refused", "count", "NoX", "_"}
 # folders that are made or installed, and not kept
@@ -83,7 +83,7 @@ class Document:
         self.cited = defaultdict(set)
         self.section_crates = []
         self.spans = []  # (start, end, name or path) of what stands in backticks, for names that are given with their file
-        self.of_edits = name in ("WRONG_PROGRAMS", "WRONG_ROWS")
+        self.of_edits = name == "WRONG_PROGRAMS" or name in APART
         self.labels = self.label_places() if self.of_edits else {}
         place = 0
         for line in text.splitlines(keepends=True):
@@ -221,7 +221,7 @@ def check(tree, name, text):
         for kind, needed in (("field", tree.fields), ("promise", tree.promised)):
             document.wrong += [f"docs/{name}.md: {kind} {n} of {file} is not cited" for n, file in needed.items() if n not in document.cited["name"]]
     if document.of_edits:
-        needed = {e for e in tree.edits if e.startswith(ROWS) == (name == "WRONG_ROWS")}
+        needed = {e for e in tree.edits if next((d for d, crates in APART.items() if e.startswith(crates)), "WRONG_PROGRAMS") == name}
         document.wrong += [f"docs/{name}.md: edit {e} is not cited" for e in sorted(needed - document.cited["edit"])]
     return document
 
@@ -253,8 +253,8 @@ def self_test(tree, documents):
         if not set(check(tree, name, document.text[:start] + instead + document.text[end:]).wrong) - set(document.wrong):
             missed.append(f"docs/{name}.md: {words}")
     tree.fields["planted-field"] = tree.promised["planted-promise"] = "planted"
-    tree.edits |= {"planted/edit", "nutation/planted"}
-    for name, new in (("PROMISES", "planted-field"), ("PROMISES", "planted-promise"), ("WRONG_PROGRAMS", "planted/edit"), ("WRONG_ROWS", "nutation/planted")):
+    tree.edits |= {"planted/edit", "nutation/planted", "rescue/planted"}
+    for name, new in (("PROMISES", "planted-field"), ("PROMISES", "planted-promise"), ("WRONG_PROGRAMS", "planted/edit"), ("WRONG_ROWS", "nutation/planted"), ("WRONG_RESCUE", "rescue/planted")):
         planted.append(new)
         if not any(new in words for words in check(tree, name, documents[name].text).wrong):
             missed.append(f"docs/{name}.md: {new}, not cited")
