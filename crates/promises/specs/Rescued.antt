@@ -11,7 +11,7 @@ use Rattle.record.specs.declared.Record.{Record}
 use Rattle.record.specs.declared.ReadAnswer.the-variants.{IsRecord, NoRecord}
 use Rattle.record.specs.Records.{readOf}
 use Rattle.rescue.specs.Walk.{range, recordAt, ended, keeping, passing, walkFrom, walk, rangesOf}
-use Rattle.rescue.specs.Rescue.{keptCount, rangesIn, passedCount, keptBytes, listBytes, rescueOf, recordsAfter, listAfter, keptOf, rangesNumberOf, passedOf, rescueRefusalOf}
+use Rattle.rescue.specs.Rescue.{keptBytes, listBytes, rescueOf, recordsAfter, listAfter, keptOf, rangesNumberOf, passedOf, rescueRefusalOf}
 use Rattle.rescue.specs.Claims.{Each, among, inRecord, placesOf, Apart, listed, WholeRecords}
 use Rattle.rescue.specs.declared.RescueAnswer.the-variants.{Rescued, NoRescue}
 

@@ -11,7 +11,6 @@ use lib.ListN.{length, take, drop, getD, set, length-drop, length-append, length
 use lib.Seq.{take-all, getD-drop, take-set-le, drop-set-lt, drop-set-add}
 use borrow.Author.Tests.{lt-ltb}
 use Rattle.bigendian.specs.Numbers.{Bytes}
-use Rattle.record.specs.declared.Record.{Record}
 use Rattle.record.specs.declared.ReadAnswer.{ReadAnswer}
 use Rattle.record.specs.declared.ReadAnswer.the-variants.{IsRecord, NoRecord}
 use Rattle.record.specs.Format.{recordLength}
@@ -19,7 +18,7 @@ use Rattle.record.specs.Records.{readOf, isRecord}
 use Rattle.record.proofs.Kept.{read-front}
 use Rattle.record.proofs.Changed.{changed-byte}
 use Rattle.rescue.specs.Walk.{Walk, range, recordAt, walkFrom, rangesOf}
-use Rattle.rescue.specs.Rescue.{keptCount, passedCount, rangesIn, recordsAt, keptBytes}
+use Rattle.rescue.specs.Rescue.{keptCount, rangesIn, recordsAt, keptBytes}
 use Rattle.rescue.specs.Claims.{placesFrom, recordPlaces, WholeRecords}
 use Rattle.rescue.proofs.Walks.{walk-ends}
 use Rattle.rescue.proofs.Hops.{over, all-kept}

@@ -6,11 +6,9 @@ use mathlib.Core.Bool.{true}
 use mathlib.Core.List.{List, [], _∷_, _++_}
 use native.Mathlib.Omega.{arith}
 use native.Mathlib.Nat.{mod-eq-of-lt}
-use lib.ListN.{length, take, drop}
+use lib.ListN.{length, take, drop, length-drop}
 use lib.Seq.{length-take-le, take-at, drop-append-add}
-use lib.ListN.{length-drop}
-use Rattle.bigendian.specs.Numbers.{bytesOf, numberAt}
-use Rattle.bigendian.specs.Buffers.{atFront}
+use Rattle.bigendian.specs.Numbers.{bytesOf}
 use Rattle.bigendian.proofs.Numbers.{number-bytes}
 use Rattle.bigendian.proofs.Buffers.{front-is}
 use Rattle.instants.specs.Refusals.{firstRefusal}
@@ -18,14 +16,13 @@ use Rattle.instants.proofs.FirstRefusal.{handed-on, none-answered, refused-firs
 use Rattle.record.specs.Format.{recordLength}
 use Rattle.record.specs.Records.{readOf, isRecord}
 use Rattle.record.proofs.Kept.{read-front}
-use Rattle.rescue.specs.declared.RescueAnswer.{RescueAnswer}
 use Rattle.rescue.specs.declared.RescueAnswer.the-variants.{Rescued, NoRescue}
-use Rattle.rescue.specs.Walk.{Range, range, walk, recordAt, rangesOf}
+use Rattle.rescue.specs.Walk.{Range, range, walk, recordAt}
 use Rattle.rescue.specs.Rescue.{mostBytes, entryLength, keptCount, rangesIn, passedCount, countsOf, recordsAt, keptBytes, listBytes, rescueCases, rescueOf, recordsAfter, listAfter, keptOf, rangesNumberOf, passedOf, rescueRefusalOf}
 use Rattle.rescue.specs.Claims.{Each, listed, WholeRecords}
 use Rattle.rescue.proofs.Entries.{list-length}
 use Rattle.rescue.proofs.Ranges.{Within, ranges-within, ranges-few}
-use Rattle.rescue.proofs.Covers.{kept-read, kept-within, bytes-counted}
+use Rattle.rescue.proofs.Covers.{kept-read, kept-within}
 use Rattle.rescue.proofs.Rounds.{kept-few, kept-length}
 
 -- ---- the refusal, and what stands beside it

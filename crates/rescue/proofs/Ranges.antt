@@ -7,11 +7,11 @@ use mathlib.Core.List.{List, [], _∷_, _++_}
 use native.Mathlib.Omega.{arith}
 use native.Mathlib.Decide.{decLt}
 use native.Mathlib.Numerals.{add-one}
-use lib.Dec.{eqb, ltb}
+use lib.Dec.{eqb}
 use lib.ListN.{length}
 use borrow.Author.Tests.{lt-ltb, le-ltb, eq-eqb, ne-eqb, eqb-true, eqb-false}
 use Rattle.record.specs.Format.{recordLength}
-use Rattle.rescue.specs.Walk.{Range, range, Walk, recordAt, ended, keeping, passing, stepping, walkFrom, joined, rangesOf}
+use Rattle.rescue.specs.Walk.{Range, range, Walk, walkFrom, joined, rangesOf}
 use Rattle.rescue.specs.Rescue.{rangesIn}
 use Rattle.rescue.specs.Inner.{Hop, rangeTo}
 use Rattle.rescue.specs.Claims.{placesFrom, placesOf, StartsAfter, Apart}

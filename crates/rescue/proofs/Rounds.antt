@@ -1,14 +1,13 @@
 -- The loops over hops and chains. What was counted, or written, and what the walk from the next place still gives are together those of the whole walk; at
 -- the end nothing is left. Assumes nothing.
-use Prim.Native.Nat.{ℕ, _+_, _-_, _*_, _/_, _<_, _≤_}
+use Prim.Native.Nat.{ℕ, _+_, _-_, _*_, _/_, _≤_}
 use mathlib.Core.Path.{_≡_, refl, ap, sym, _∙_}
 use mathlib.Core.Bool.{Bool, true, false, cond}
 use mathlib.Core.List.{List, [], _∷_, _++_}
 use native.Mathlib.Omega.{arith}
 use native.Mathlib.Nat.{zero-add}
 use lib.Dec.{ltb}
-use lib.ListN.{length, take, drop, length-append, length-drop}
-use lib.Seq.{length-take-le}
+use lib.ListN.{length, take, drop, length-append}
 use Rattle.bigendian.specs.Buffers.{atFront}
 use Rattle.bigendian.proofs.Buffers.{front-copy}
 use Rattle.bigendian.proofs.Filling.{Filling, filling-none, filling-sum, filling-room, filling-more, filling-all}
@@ -111,12 +110,6 @@ module _ {s records₀ list₀ records list : List ℕ} {i kept listed : ℕ} (w
     -- the bytes that are lent for them
     abbrev part : List ℕ
     part = take (e - j) (drop j s)
-
-    pub chain-on : j ≤ e
-    chain-on = omega (arith, c .end)
-
-    pub part-length : length part ≡ e - j
-    part-length = length-take-le (e - j) (drop j s) (omega (arith, length-drop j s, chain-within s j e c (h .within)))
 
     part-records : recordsAt s (recordPlaces j (c .count)) ≡ part
     part-records = let q : recordLength * c .count ≡ e - j = omega (arith, c .end) in records-there (c .count) s j ∙ ap (λ (k : ℕ). take k (drop j s)) q

@@ -11,7 +11,7 @@ use Rattle.record.specs.Format.{recordLength}
 use Rattle.rescue.specs.declared.Counts.{Counts}
 use Rattle.rescue.specs.declared.RescueAnswer.{RescueAnswer}
 use Rattle.rescue.specs.declared.RescueAnswer.the-variants.{Rescued, NoRescue}
-use Rattle.rescue.specs.Walk.{Walk, Range, walk, rangesOf}
+use Rattle.rescue.specs.Walk.{Range, walk, rangesOf}
 
 -- the most bytes of an input
 abbrev pub mostBytes : ℕ

@@ -1,5 +1,5 @@
 -- `rescue::count` meets its contract. The invariant: what is counted, and what the walk from `at` still gives, are the whole walk's. Assumes nothing.
-use Prim.Native.Nat.{ℕ, _+_, _-_, _≤_}
+use Prim.Native.Nat.{ℕ, _-_, _≤_}
 use mathlib.Core.Path.{refl}
 use mathlib.Core.List.{List}
 use native.Mathlib.Omega.{arith}
@@ -9,7 +9,6 @@ use Rattle.rescue.specs.Rescue.{mostBytes}
 use Rattle.rescue.specs.Inner.{Hop, Chain}
 use Rattle.rescue.proofs.Hops.{chain-within, turn-on}
 use Rattle.rescue.proofs.Rounds.{Counted, counted-none, counted-more, counted-few, counted-all}
-use borrow.Author.Needs.{needs}
 use Rattle.rescue.proofs.count.Statement.{statement}
 use Rattle.rescue.proofs.count.Tie as tie
 

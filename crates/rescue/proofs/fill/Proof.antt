@@ -1,7 +1,5 @@
 -- `rescue::fill` meets its contract. The invariant: what is written, and what the walk from `at` still gives, are the whole answer. Assumes nothing.
-use Prim.Native.Nat.{_+_, _-_, _*_, _≤_}
-use mathlib.Core.Path.{_≡_, ap, sym, _∙_}
-use mathlib.Core.List.{List}
+use Prim.Native.Nat.{_-_, _≤_}
 use native.Mathlib.Omega.{arith}
 use denote.Ref.{now}
 use lib.ListN.{length}
@@ -9,7 +7,7 @@ use Rattle.bigendian.proofs.Filling.{filling-within, filling-length}
 use Rattle.rescue.specs.Rescue.{mostBytes}
 use Rattle.rescue.specs.Inner.{Hop, Chain}
 use Rattle.rescue.proofs.Hops.{chain-within, turn-on}
-use Rattle.rescue.proofs.Rounds.{Written, written-none, list-room, list-most, chain-on, part-length, records-room, records-most, written-more, written-all}
+use Rattle.rescue.proofs.Rounds.{Written, written-none, list-room, list-most, records-room, records-most, written-more, written-all}
 use borrow.Author.Needs.{needs}
 use Rattle.rescue.proofs.fill.Statement.{statement}
 use Rattle.rescue.proofs.fill.Tie as tie

@@ -2,7 +2,6 @@
 use mathlib.Core.Path.{_≡_, ap, sym, _∙_}
 use denote.Ref.{now}
 use lib.ListN.{length}
-use Rattle.rescue.specs.declared.RescueAnswer.{RescueAnswer}
 use Rattle.rescue.specs.Rescue.{rescueOf, rescueRefusalOf}
 use Rattle.rescue.proofs.Answers.{given-fits, records-given, list-given, records-refused, list-refused}
 use borrow.Author.Needs.{needs}
