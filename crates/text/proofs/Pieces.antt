@@ -4,10 +4,10 @@ use mathlib.Core.Path.{_≡_, ap, sym, _∙_}
 use mathlib.Core.List.{List, [], _∷_, _++_, append-nil}
 use native.Mathlib.Omega.{arith}
 use native.Mathlib.Numerals.{add-one}
-use lib.ListN.{length, take, drop, set, length-append, length-drop}
+use lib.ListN.{length, take, drop, set, length-append, length-take, length-drop}
 use lib.Seq.{take-all, drop-length, drop-drop, set-split}
 use Rattle.bigendian.specs.Buffers.{atFront}
-use Rattle.bigendian.proofs.Buffers.{front-copy, front-length, front-take, front-behind, front-more}
+use Rattle.bigendian.proofs.Buffers.{front-copy, front-length, front-take, front-within, front-behind, front-more}
 
 -- r bytes of text stand at the front of a buffer that was `old` and is `new`
 abbrev pub Puts : (text old : List ℕ) (r : ℕ) (new : List ℕ) → Type 0
@@ -31,6 +31,14 @@ module _ (a old : List ℕ) (n : ℕ) (s : List ℕ) (p : Puts a old n s) where
   -- a text that fits leaves the buffer as long as it is
   pub put-length : length a ≤ length old → length s ≡ length old
   put-length h = rw (p .1) (front-length a old h)
+
+  -- it stands within the buffer
+  pub put-within : n ≤ length s
+  put-within = rw (p .0, p .1) (front-within a old)
+
+  -- where two texts fit, there is room for the second behind the first
+  pub put-room : (b : List ℕ) → length (a ++ b) ≤ length old → length b ≤ length (take (length s - n) (drop n s))
+  put-room b h = simp (length-take, length-drop) (omega (arith, p .0, length-append a b, put-length (omega (arith, length-append a b))))
 
   -- one more text
   pub more-put : (b ys : List ℕ) (m : ℕ) → Puts b (take (length s - n) (drop n s)) m ys → Puts (a ++ b) old (n + m) (lentFrom s n ys)

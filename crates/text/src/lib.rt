@@ -1,5 +1,6 @@
 // The programs' words: decimal numerals, and what is written of a refusal.
 ghost use mathlib.Core.Path.{_≡_};
+ghost use mathlib.Core.List.{_++_};
 ghost use Prim.Native.Nat.{_≤_};
 ghost use lib.ListN.{length};
 ghost use Rattle.bigendian.specs.Buffers.{atFront};
@@ -35,14 +36,23 @@ pub fn put_numeral(n: u64, buffer: &mut [u8]) -> usize
     size
 }
 
+// Puts a word and the decimal numeral of n behind it at the front of the buffer, and returns their length.
+pub fn put_counted(word: &[u8], n: u64, buffer: &mut [u8]) -> usize
+    requires { ⌜ length (now word ++ numeral n) ≤ length (now buffer) ⌝ }
+    ensures size { λ r. ⌜ r ≡ length (now (word .entry) ++ numeral n) ⌝ }
+    ensures buffer { λ _. ⌜ now (buffer .exit) ≡ atFront (now (word .entry) ++ numeral n) (now (buffer .entry)) ⌝ }
+{
+    let end = bytes::copy(word, buffer);
+    end + put_numeral(n, &mut buffer[end..])
+}
+
 // Puts a refusal's text at the front of the buffer and returns its length.
 pub fn refuse(number: u32, buffer: &mut [u8]) -> usize
     requires { ⌜ length (refusalText number) ≤ length (now buffer) ⌝ }
     ensures size { λ r. ⌜ r ≡ length (refusalText number) ⌝ }
     ensures buffer { λ _. ⌜ now (buffer .exit) ≡ atFront (refusalText number) (now (buffer .entry)) ⌝ }
 {
-    let word = bytes::copy(b"refused ", buffer);
-    let end = word + put_numeral(number as u64, &mut buffer[word..]);
+    let end = put_counted(b"refused ", number as u64, buffer);
     buffer[end] = b'\n';
     end + 1
 }
