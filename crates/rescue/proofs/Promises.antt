@@ -3,7 +3,7 @@
 use Prim.Native.Nat.{ℕ, zero, suc, _+_, _*_, _^_, _<_, _≤_}
 use mathlib.Core.Path.{_≡_, refl, ap, ap₂, sym, _∙_}
 use mathlib.Core.Bool.{true}
-use mathlib.Core.List.{List, [], _∷_, _++_}
+use mathlib.Core.List.{List, [], _∷_, _++_, append-nil}
 use native.Mathlib.Omega.{arith}
 use native.Mathlib.Nat.{mod-eq-of-lt}
 use lib.ListN.{length, take, drop, length-drop}
@@ -96,14 +96,20 @@ pub kept-whole : (s : List ℕ) → WholeRecords (keptBytes s) (keptCount s)
 unfolding keptBytes keptCount
 kept-whole s = record { size = kept-length s; reads = pieces-whole s (walk s .kept) (kept-read s 0) (kept-within s 0) }
 
--- numbers of four bytes are read back
-entry-listed : (n : ℕ) (rs : List Range) → n < 256 ^ 4 → Within n rs → listed (length rs) (listBytes rs) ≡ rs
-entry-listed n [] h w = refl
-entry-listed n (r ∷ rs) h w =
-    let a = number-bytes [] 4 (r .start) (bytesOf 4 (r .size) ++ listBytes rs) ∙ mod-eq-of-lt (omega (arith, w .0)) in
-    let b = number-bytes (bytesOf 4 (r .start)) 4 (r .size) (listBytes rs) ∙ mod-eq-of-lt (omega (arith, w .0)) in
-    ap₂ (λ (x y : ℕ). range x y ∷ listed (length rs) (listBytes rs)) a b ∙ ap (λ (l : List Range). r ∷ l) (entry-listed n rs h (w .1))
+-- numbers of four bytes are read back, whatever is behind them
+entry-listed : (n : ℕ) (rs : List Range) (t : List ℕ) → n < 256 ^ 4 → Within n rs → listed (length rs) (listBytes rs ++ t) ≡ rs
+entry-listed n [] t h w = refl
+entry-listed n (r ∷ rs) t h w =
+    let a = number-bytes [] 4 (r .start) (bytesOf 4 (r .size) ++ (listBytes rs ++ t)) ∙ mod-eq-of-lt (omega (arith, w .0)) in
+    let b = number-bytes (bytesOf 4 (r .start)) 4 (r .size) (listBytes rs ++ t) ∙ mod-eq-of-lt (omega (arith, w .0)) in
+    ap₂ (λ (x y : ℕ). range x y ∷ listed (length rs) (listBytes rs ++ t)) a b ∙ ap (λ (l : List Range). r ∷ l) (entry-listed n rs t h (w .1))
 
 -- PROMISE. The entries of the list read back as the ranges.
 pub list-reads-back : (s : List ℕ) → length s ≤ mostBytes → listed (length (rangesIn s)) (listBytes (rangesIn s)) ≡ rangesIn s
-list-reads-back s h = entry-listed (length s) (rangesIn s) (omega arith) (ranges-within s)
+list-reads-back s h =
+    ap (listed (length (rangesIn s))) (sym (append-nil (listBytes (rangesIn s)))) ∙ entry-listed (length s) (rangesIn s) [] (omega arith) (ranges-within s)
+
+-- from a buffer as well that has the list at its front
+pub front-reads-back : (s old : List ℕ) → length s ≤ mostBytes → listed (length (rangesIn s)) (atFront (listBytes (rangesIn s)) old) ≡ rangesIn s
+unfolding atFront
+front-reads-back s old h = entry-listed (length s) (rangesIn s) _ (omega arith) (ranges-within s)
