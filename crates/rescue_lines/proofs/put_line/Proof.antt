@@ -46,7 +46,7 @@ module _ (a : tie.After-put-counted) where
   filled = a .put-counted .last .1 .1 .0
 
   first : Filling (old start) (line start) filled place (at (start .args .start) ++ ascii "\n")
-  first = first-piece _ _ (passed (start .args .size)) _ (start .pre) (is-line start) _ _ (a .put-counted .ensures)
+  first = first-piece _ _ (passed (start .args .size)) _ (start .pre) (is-line start) place filled (a .put-counted .ensures)
 
 module _ (b : tie.After-put-counted2) where
   abbrev one : tie.After-put-counted
@@ -59,7 +59,7 @@ module _ (b : tie.After-put-counted2) where
   filled2 = lentFrom (filled one) (place one) (b .put-counted2 .last .1 .1 .0)
 
   second : Filling (old (start one)) (line (start one)) filled2 place2 (ascii "\n")
-  second = next-piece (first one) (at (start one .args .start)) (ascii "\n") _ _ refl (b .put-counted2 .ensures)
+  second = next-piece (first one) (at (start one .args .start)) (ascii "\n") (b .put-counted2 .last .1 .1 .0) _ refl (b .put-counted2 .ensures)
 
 module _ (d : tie.After-copy) where
   abbrev two : tie.After-put-counted2

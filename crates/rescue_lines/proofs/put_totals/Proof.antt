@@ -48,7 +48,7 @@ module _ (a : tie.After-put-counted) where
   filled = a .put-counted .last .1 .1 .0
 
   first : Filling (old start) (totals start) filled place (passed start ++ (ranges start ++ ascii " ranges\n"))
-  first = first-piece _ _ (kept start) _ (start .pre) (are-totals start) _ _ (a .put-counted .ensures)
+  first = first-piece _ _ (kept start) _ (start .pre) (are-totals start) place filled (a .put-counted .ensures)
 
 module _ (b : tie.After-put-counted2) where
   abbrev one : tie.After-put-counted
@@ -61,7 +61,7 @@ module _ (b : tie.After-put-counted2) where
   filled2 = lentFrom (filled one) (place one) (b .put-counted2 .last .1 .1 .0)
 
   second : Filling (old (start one)) (totals (start one)) filled2 place2 (ranges (start one) ++ ascii " ranges\n")
-  second = next-piece (first one) (passed (start one)) _ _ _ refl (b .put-counted2 .ensures)
+  second = next-piece (first one) (passed (start one)) _ (b .put-counted2 .last .1 .1 .0) _ refl (b .put-counted2 .ensures)
 
 module _ (d : tie.After-put-counted3) where
   abbrev two : tie.After-put-counted2
@@ -74,7 +74,7 @@ module _ (d : tie.After-put-counted3) where
   filled3 = lentFrom (filled2 two) (place2 two) (d .put-counted3 .last .1 .1 .0)
 
   third : Filling (old (start (one two))) (totals (start (one two))) filled3 place3 (ascii " ranges\n")
-  third = next-piece (second two) (ranges (start (one two))) _ _ _ refl (d .put-counted3 .ensures)
+  third = next-piece (second two) (ranges (start (one two))) _ (d .put-counted3 .last .1 .1 .0) _ refl (d .put-counted3 .ensures)
 
 module _ (e : tie.After-copy) where
   abbrev three : tie.After-put-counted3
