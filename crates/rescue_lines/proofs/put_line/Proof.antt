@@ -46,7 +46,7 @@ module _ (a : tie.After-put-counted) where
   filled = a .put-counted .last .1 .1 .0
 
   first : Filling (old start) (line start) filled place (at (start .args .start) ++ ascii "\n")
-  first = first-piece _ _ (passed (start .args .size)) _ (start .pre) (is-line start) place filled (a .put-counted .ensures)
+  first = first-piece (line start) (old start) (passed (start .args .size)) _ (start .pre) (is-line start) place filled (a .put-counted .ensures)
 
 module _ (b : tie.After-put-counted2) where
   abbrev one : tie.After-put-counted

@@ -48,7 +48,7 @@ module _ (a : tie.After-put-counted) where
   filled = a .put-counted .last .1 .1 .0
 
   first : Filling (old start) (totals start) filled place (passed start ++ (ranges start ++ ascii " ranges\n"))
-  first = first-piece _ _ (kept start) _ (start .pre) (are-totals start) place filled (a .put-counted .ensures)
+  first = first-piece (totals start) (old start) (kept start) _ (start .pre) (are-totals start) place filled (a .put-counted .ensures)
 
 module _ (b : tie.After-put-counted2) where
   abbrev one : tie.After-put-counted

@@ -4,9 +4,9 @@ use mathlib.Core.Path.{_≡_, refl}
 use mathlib.Core.List.{List, _++_}
 use native.Mathlib.Omega.{arith}
 use denote.Ref.{now}
-use lib.ListN.{length, length-append}
+use lib.ListN.{length, length-append, length-take, length-drop}
 use Rattle.text.specs.Text.{numeral}
-use Rattle.text.proofs.Pieces.{Puts, copied, put-within, put-room, more-put}
+use Rattle.text.proofs.Pieces.{Puts, copied, put-length, put-within, more-put}
 use borrow.Author.Needs.{needs}
 use Rattle.text.proofs.put_counted.Statement.{statement}
 use Rattle.text.proofs.put_counted.Tie as tie
@@ -22,6 +22,12 @@ module _ (w : tie.After-copy) where
   within : w .copy .result ≤ length (w .copy .last .1 .0)
   within = put-within _ _ _ _ first
 
+  -- there is room for the numeral behind it
+  room : w .copy .result + length (numeral (s .args .n)) ≤ length (w .copy .last .1 .0)
+  room =
+      let both = length-append (now (s .args .word)) (numeral (s .args .n)) in
+      omega (arith, first .0, both, s .pre, put-length _ _ _ _ first (omega (arith, both, s .pre)))
+
 -- after the numeral
 abbrev copy-of : tie.After-put-numeral → tie.After-copy
 copy-of y = y .before .before .before .before
@@ -30,16 +36,16 @@ copy-requires : tie.Need-copy-requires
 copy-requires c κs = let a = c .before .before .before .args in omega (arith, length-append (now (a .word)) (numeral (a .n)))
 
 sub-put-numeral : tie.Need-sub-put-numeral
-sub-put-numeral c = within (c .before .before)
+sub-put-numeral c = omega (arith, within (c .before .before))
 
 part-put-numeral-start : tie.Need-part-put-numeral-start
-part-put-numeral-start c = within (c .before .before)
+part-put-numeral-start c = omega (arith, within (c .before .before))
 
 part-put-numeral-end : tie.Need-part-put-numeral-end
 part-put-numeral-end c = search needs
 
 put-numeral-requires : tie.Need-put-numeral-requires
-put-numeral-requires c κs = let w : tie.After-copy = c .before .before .before in put-room _ _ _ _ (first w) (numeral (s w .args .n)) (s w .pre)
+put-numeral-requires c κs = simp (length-take, length-drop) (omega (arith, room (c .before .before .before)))
 
 add-result : tie.Need-add-result
 add-result c =
