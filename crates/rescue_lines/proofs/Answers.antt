@@ -1,6 +1,6 @@
 -- What is written, case by case. The code asks for a rescue into 65,520 and 16,920 bytes, which hold every answer: only the input can be refused, and then
 -- its refusal is what is written; else the records are the walk's, and the list reads back as the ranges whose lines are put. Assumes nothing.
-use Prim.Native.Nat.{ℕ, _+_, _*_, _<_, _≤_}
+use Prim.Native.Nat.{ℕ, _*_, _≤_}
 use mathlib.Core.Path.{_≡_, refl, ap, ap₂, sym, _∙_}
 use mathlib.Core.List.{List, [], _++_}
 use native.Mathlib.Omega.{arith}
@@ -16,7 +16,7 @@ use Rattle.rescue.specs.declared.Counts.{Counts}
 use Rattle.rescue.specs.declared.RescueAnswer.{RescueAnswer}
 use Rattle.rescue.specs.declared.RescueAnswer.the-variants.{Rescued, NoRescue}
 use Rattle.rescue.specs.Walk.{Range}
-use Rattle.rescue.specs.Rescue.{mostBytes, entryLength, keptCount, rangesIn, countsOf, keptBytes, listBytes, inputCases, rescueOf, recordsAfter, listAfter}
+use Rattle.rescue.specs.Rescue.{mostBytes, entryLength, keptCount, rangesIn, countsOf, listBytes, inputCases, rescueOf, recordsAfter, listAfter}
 use Rattle.rescue.specs.Inner.{Fits}
 use Rattle.rescue.specs.Claims.{listed}
 use Rattle.rescue.proofs.Entries.{list-length}
@@ -25,7 +25,6 @@ use Rattle.rescue.proofs.Answers.{given-fits, given-counts, records-given, list
 use Rattle.rescue.proofs.Promises.{rescue-most, front-reads-back}
 use Rattle.text.specs.Text.{refusalText}
 use Rattle.rescue_lines.specs.Lines.{linesText, totalsText, recordsText, reportText}
-use Rattle.rescue_lines.specs.Inner.{lineMost, totalsMost}
 use Rattle.rescue_lines.proofs.Promises.{records-accepted, report-accepted}
 
 -- the bytes of the two buffers that a rescue fills

@@ -1,7 +1,7 @@
 -- `rescue_lines::answer` meets its contract: a refused input leaves the records alone and has its refusal written, any other is rescued and reported.
 -- Each way out is a law of Answers. Assumes nothing.
-use Prim.Native.Nat.{ℕ, _+_, _*_, _≤_}
-use mathlib.Core.Path.{_≡_, refl, ap, sym, _∙_}
+use Prim.Native.Nat.{ℕ}
+use mathlib.Core.Path.{_≡_, ap, sym, _∙_}
 use mathlib.Core.List.{List, _++_}
 use native.Mathlib.Nat.{le-trans}
 use native.Mathlib.Omega.{arith}
@@ -15,7 +15,7 @@ use Rattle.rescue.specs.Rescue.{rescueOf, recordsAfter, listAfter}
 use Rattle.rescue.specs.Claims.{listed}
 use Rattle.text.proofs.Numerals.{refusal-most}
 use Rattle.text.proofs.Pieces.{Puts}
-use Rattle.rescue_lines.specs.Lines.{linesText, totalsText, recordsText, reportText}
+use Rattle.rescue_lines.specs.Lines.{linesText, totalsText}
 use Rattle.rescue_lines.proofs.Answers.{none-written, refusal-written, records-size, ranges-most, kept-most, records-written, list-long, report-written}
 use borrow.Author.Needs.{needs}
 use Rattle.rescue_lines.proofs.answer.Statement.{statement}

@@ -10,7 +10,7 @@ use lib.ListN.{length, take, drop, length-take, length-drop}
 use Rattle.bigendian.proofs.Buffers.{front-none}
 use Rattle.rescue.specs.Walk.{range}
 use Rattle.rescue.specs.Claims.{listed}
-use Rattle.text.proofs.Pieces.{Puts, lentFrom, put-length, put-within, more-put}
+use Rattle.text.proofs.Pieces.{Puts, put-length, put-within, more-put}
 use Rattle.rescue_lines.specs.Lines.{lineText, linesText}
 use Rattle.rescue_lines.specs.Inner.{lineMost}
 use Rattle.rescue_lines.proofs.Lines.{line-most, entryAt, lines-more}
