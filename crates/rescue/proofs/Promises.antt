@@ -9,6 +9,7 @@ use native.Mathlib.Nat.{mod-eq-of-lt}
 use lib.ListN.{length, take, drop, length-drop}
 use lib.Seq.{length-take-le, take-at, drop-append-add}
 use Rattle.bigendian.specs.Numbers.{bytesOf}
+use Rattle.bigendian.specs.Buffers.{atFront}
 use Rattle.bigendian.proofs.Numbers.{number-bytes}
 use Rattle.bigendian.proofs.Buffers.{front-is}
 use Rattle.instants.specs.Refusals.{firstRefusal}
