@@ -13,29 +13,27 @@ use Rattle.rescue_lines.specs.Lines.{lineText, linesText, totalsText, re
 
 -- ---- an input of 65,536 bytes or fewer
 
-module _ (s : List ℕ) (h : length s ≤ mostBytes) where
-  -- PROMISE. To standard output go the kept records.
-  pub records-accepted : recordsText s ≡ keptBytes s
-  unfolding recordsText
-  records-accepted = rw (le-ltb mostBytes (length s) h) refl
+-- PROMISE. To standard output go the kept records.
+pub records-accepted : (s : List ℕ) → length s ≤ mostBytes → recordsText s ≡ keptBytes s
+unfolding recordsText
+records-accepted s h = rw (le-ltb mostBytes (length s) h) refl
 
-  -- PROMISE. To standard error goes a line for each range, in their order, and behind them the totals.
-  pub report-accepted : reportText s ≡ linesText (rangesIn s) ++ totalsText (countsOf s)
-  unfolding reportText
-  report-accepted = rw (le-ltb mostBytes (length s) h) refl
+-- PROMISE. To standard error goes a line for each range, in their order, and behind them the totals.
+pub report-accepted : (s : List ℕ) → length s ≤ mostBytes → reportText s ≡ linesText (rangesIn s) ++ totalsText (countsOf s)
+unfolding reportText
+report-accepted s h = rw (le-ltb mostBytes (length s) h) refl
 
 -- ---- a longer one
 
-module _ (s : List ℕ) (h : mostBytes < length s) where
-  -- PROMISE. Nothing goes to standard output.
-  pub records-refused : recordsText s ≡ []
-  unfolding recordsText
-  records-refused = rw (lt-ltb mostBytes (length s) h) refl
+-- PROMISE. Nothing goes to standard output.
+pub records-refused : (s : List ℕ) → mostBytes < length s → recordsText s ≡ []
+unfolding recordsText
+records-refused s h = rw (lt-ltb mostBytes (length s) h) refl
 
-  -- PROMISE. To standard error goes "refused 25".
-  pub report-refused : reportText s ≡ ascii "refused 25\n"
-  unfolding reportText refusalText numeralIn
-  report-refused = rw (lt-ltb mostBytes (length s) h) refl
+-- PROMISE. To standard error goes "refused 25".
+pub report-refused : (s : List ℕ) → mostBytes < length s → reportText s ≡ ascii "refused 25\n"
+unfolding reportText refusalText numeralIn
+report-refused s h = rw (lt-ltb mostBytes (length s) h) refl
 
 -- ---- two reports
 
