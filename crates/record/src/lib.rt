@@ -23,6 +23,9 @@ ghost use Rattle.record.specs.Records.{writeRefusal, written, recordOf, 
 // The bytes of a record.
 pub const LENGTH: usize = 30;
 
+// Its 16-bit words.
+const WORDS: usize = 15;
+
 // The only version that is written and read.
 const VERSION: u64 = 1;
 
@@ -141,7 +144,7 @@ fn form(s: &[u8]) -> u32
     if n != 0 {
         return n;
     }
-    if bigendian::word_sum(s, 15) != 0 {
+    if bigendian::word_sum(s, WORDS) != 0 {
         return 16;
     }
     0
@@ -188,7 +191,7 @@ pub fn reads_behind(s: &[u8]) -> bool
     requires { ⌜ headRefusal (now s) ≡ 0 ⌝ }
     ensures { λ r. ⌜ r ≡ isRecord (readOf (now (s .entry))) ⌝ }
 {
-    if bigendian::word_sum(s, 15) != 0 {
+    if bigendian::word_sum(s, WORDS) != 0 {
         return false;
     }
     match join_words(s) {

@@ -1,6 +1,10 @@
 -- `record::form` meets its contract: the head is refused, or the sum, or neither. Assumes nothing.
+use Prim.Native.Nat.{_≤_}
 use mathlib.Core.Path.{_≡_, sym, _∙_}
+use native.Mathlib.Omega.{arith}
 use denote.Ref.{now}
+use lib.ListN.{length}
+use Rattle.record.specs.Format.{recordLength}
 use Rattle.record.specs.Inner.{headRefusal}
 use Rattle.record.proofs.Forms.{head-long, head-refused, sum-refused, form-accepted}
 use borrow.Author.Needs.{needs}
@@ -18,7 +22,7 @@ returns : tie.Need-returns
 returns c = let e = c .before .head .ensures in e ∙ head-refused _ (λ q. c .if1 .taken (e ∙ q))
 
 word-sum-requires : tie.Need-word-sum-requires
-word-sum-requires c κs = head-long _ (accepted c)
+word-sum-requires c κs = let h : recordLength ≤ length (now (c .before .before .before .args .s)) = head-long _ (accepted c) in omega (arith, h)
 
 returns-2 : tie.Need-returns-2
 returns-2 c = let w : tie.After-word-sum = c .before in sym (sum-refused _ (accepted (w .before)) (λ q. c .if2 .taken (w .word-sum .ensures ∙ q)))

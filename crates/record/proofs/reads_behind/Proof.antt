@@ -1,6 +1,10 @@
 -- `record::reads_behind` meets its contract: behind a head bytes read exactly where their sum is 0 and their clock words join. Assumes nothing.
+use Prim.Native.Nat.{_≤_}
 use mathlib.Core.Path.{_≡_, ap, sym, _∙_}
+use native.Mathlib.Omega.{arith}
 use denote.Ref.{now}
+use lib.ListN.{length}
+use Rattle.record.specs.Format.{recordLength}
 use Rattle.record.specs.Inner.{formRefusal}
 use Rattle.record.specs.Records.{isRecord}
 use Rattle.record.proofs.Forms.{head-long, sum-needed, form-accepted, read-refused, read-joined}
@@ -12,7 +16,7 @@ right : (c : tie.Else1) → formRefusal (now (c .before .before .before .args .s
 right c = form-accepted _ (c .before .before .before .pre) (sym (c .before .word-sum .ensures) ∙ c .if1 .left)
 
 word-sum-requires : tie.Need-word-sum-requires
-word-sum-requires c κs = head-long _ (c .before .pre)
+word-sum-requires c κs = let h : recordLength ≤ length (now (c .before .args .s)) = head-long _ (c .before .pre) in omega (arith, h)
 
 returns : tie.Need-returns
 returns c = sym (sum-needed _ (c .before .before .before .pre) (λ q. c .if1 .taken (c .before .word-sum .ensures ∙ q)))
