@@ -121,7 +121,7 @@ pub ranges-apart : (s : List ℕ) → Apart (rangesIn s)
 unfolding rangesIn
 ranges-apart s = spaced s 0 .apart
 
--- PROMISE. There is a record between each and the next: 31 bytes for each but the last, which has one or more.
+-- PROMISE. They are few: each but the last has a record behind it, and so takes 31 bytes or more.
 pub ranges-few : (s : List ℕ) → 31 * length (rangesIn s) ≤ length s + 30
 unfolding rangesIn
 ranges-few s = omega (arith, spaced s 0 .few)

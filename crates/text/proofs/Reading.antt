@@ -60,6 +60,6 @@ reads (suc k) n h =
     let e : n / 10 * 10 + n % 10 ≡ n = omega arith in
     rw (in-more (suc k) n l) (rw e at (reads-more (numeralIn (suc k) (n / 10)) (n / 10) (n % 10) (omega arith) (omega arith) i)))
 
--- The numeral of a number below 10^20 is one or more digits that write it, and no 0 stands before another digit.
+-- PROMISE. The numeral of a number below 10^20 is one or more digits that write it, and no 0 stands before another digit.
 pub numeral-reads : (n : ℕ) → n < 10 ^ 20 → IsNumeral (numeral n) n
 numeral-reads n h = reads 19 n h
