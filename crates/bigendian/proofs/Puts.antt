@@ -16,7 +16,8 @@ pub record Putting (old : List ℕ) (at size n : ℕ) (s : List ℕ) (rest k : �
   pub front : take at s ≡ take at old
   pub whole : bytesOf k rest ++ drop (at + k) s ≡ bytesOf size n ++ drop (at + size) old
 
-stored : (s : List ℕ) (i b : ℕ) → i < length s → drop i (set s i b) ≡ b ∷ drop (suc i) s
+-- a byte that is set stands there
+pub stored : (s : List ℕ) (i b : ℕ) → i < length s → drop i (set s i b) ≡ b ∷ drop (suc i) s
 stored s i b h =
     drop-cons (set s i b) i 0 (lt-length-set s i b h)
     ∙ (ap (λ (x : ℕ). x ∷ drop (suc i) (set s i b)) (getD-set-same s i b 0 h) ∙ ap (λ (l : List ℕ). b ∷ l) (drop-set-lt (suc i) s i b (omega arith)))

@@ -1,16 +1,16 @@
--- `text::put_numeral` meets its contract. The invariant (Filling): the digits still to be put, and what stands behind them, are together what is to stand
+-- `text::put_numeral` meets its contract. The invariant (DigitsLeft): the digits still to be put, and what stands behind them, are together what is to stand
 -- there in the end. Assumes nothing.
 use Prim.Native.Nat.{suc, _+_, _-_, _≤_}
 use mathlib.Core.Path.{_≡_}
 use native.Mathlib.Omega.{arith}
 use native.Mathlib.Nat.{sub-zero}
 use borrow.Author.Needs.{needs}
-use Rattle.text.proofs.Filling.{Filling, fill-none, fill-more, fill-all}
+use Rattle.text.proofs.LastFirst.{DigitsLeft, fill-none, fill-more, fill-all}
 use Rattle.text.proofs.put_numeral.Statement.{statement}
 use Rattle.text.proofs.put_numeral.Tie as tie
 
 abbrev Inv-loop : tie.InvT-loop
-Inv-loop n buffer₀ size rest₀ k₀ buffer rest k = (k ≤ size) × Filling buffer₀ n size buffer rest (size - k)
+Inv-loop n buffer₀ size rest₀ k₀ buffer rest k = (k ≤ size) × DigitsLeft buffer₀ n size buffer rest (size - k)
 
 abbrev μ-loop : tie.MeasureT-loop
 μ-loop n buffer₀ size rest₀ k₀ buffer rest k = size - k

@@ -7,6 +7,7 @@ use native.Mathlib.Omega.{arith}
 use lib.ListN.{length, drop, set, length-set}
 use lib.Seq.{drop-cons, getD-set-same, drop-set-lt, lt-length-set}
 use Rattle.bigendian.specs.Buffers.{atFront}
+use Rattle.bigendian.proofs.Puts.{stored}
 use Rattle.bigendian.proofs.Buffers.{front-is}
 use Rattle.text.specs.Text.{digit, numeralIn, numeral}
 use Rattle.text.proofs.Numerals.{by-digits, in-one, in-more, one-longer}
@@ -27,20 +28,15 @@ numeral-lowest (suc k) n =
     (λ l. rw (in-more k n l, one-longer) (ap (λ (ds : List ℕ). ds ++ digit (n % 10) ∷ []) i))
 
 -- of the numeral of n, with `size` digits, the lowest are put and `left` of them are not, those of `rest`
-pub record Filling (old : List ℕ) (n size : ℕ) (s : List ℕ) (rest left : ℕ) : Type 0 where
+pub record DigitsLeft (old : List ℕ) (n size : ℕ) (s : List ℕ) (rest left : ℕ) : Type 0 where
   pub same : length s ≡ length old
   pub whole : lowest left rest ++ drop left s ≡ numeral n ++ drop size old
 
-pub fill-none : (old : List ℕ) (n size : ℕ) → size ≡ length (numeral n) → Filling old n size old n size
+pub fill-none : (old : List ℕ) (n size : ℕ) → size ≡ length (numeral n) → DigitsLeft old n size old n size
 fill-none old n size e =
     record { same = refl; whole = ap (λ (ds : List ℕ). ds ++ drop size old) (ap (λ (k : ℕ). lowest k n) e ∙ sym (numeral-lowest 20 n)) }
 
-stored : (s : List ℕ) (i x : ℕ) → i < length s → drop i (set s i x) ≡ x ∷ drop (suc i) s
-stored s i x h =
-    drop-cons (set s i x) i 0 (lt-length-set s i x h)
-    ∙ (ap (λ (y : ℕ). y ∷ drop (suc i) (set s i x)) (getD-set-same s i x 0 h) ∙ ap (λ (l : List ℕ). x ∷ l) (drop-set-lt (suc i) s i x (omega arith)))
-
-pub fill-more : {old : List ℕ} {n size : ℕ} {s : List ℕ} {rest j : ℕ} → j < length s → Filling old n size s rest (suc j) → Filling old n size (set s j (digit (rest % 10))) (rest / 10) j
+pub fill-more : {old : List ℕ} {n size : ℕ} {s : List ℕ} {rest j : ℕ} → j < length s → DigitsLeft old n size s rest (suc j) → DigitsLeft old n size (set s j (digit (rest % 10))) (rest / 10) j
 fill-more {s = s} {rest = rest} {j = j} h p =
     record {
       same = length-set s j (digit (rest % 10)) ∙ p .same;
@@ -49,5 +45,5 @@ fill-more {s = s} {rest = rest} {j = j} h p =
           ∙ (sym (append-assoc (lowest j (rest / 10)) (digit (rest % 10) ∷ []) (drop (suc j) s)) ∙ p .whole);
     }
 
-pub fill-all : {old : List ℕ} {n size : ℕ} {s : List ℕ} {rest : ℕ} → size ≡ length (numeral n) → Filling old n size s rest 0 → s ≡ atFront (numeral n) old
+pub fill-all : {old : List ℕ} {n size : ℕ} {s : List ℕ} {rest : ℕ} → size ≡ length (numeral n) → DigitsLeft old n size s rest 0 → s ≡ atFront (numeral n) old
 fill-all {old = old} {n = n} {size = size} e p = p .whole ∙ sym (front-is (numeral n) old size (sym e))
