@@ -10,7 +10,7 @@ use Rattle.bigendian.specs.Numbers.{Bytes}
 use Rattle.record.specs.declared.Record.{Record}
 use Rattle.record.specs.declared.ReadAnswer.the-variants.{IsRecord, NoRecord}
 use Rattle.record.specs.Records.{readOf}
-use Rattle.rescue.specs.Walk.{range, recordAt, ended, keeping, passing, walkFrom, walk, rangesOf}
+use Rattle.rescue.specs.Walk.{range, hasRecord, ended, keeping, passing, walkFrom, walk, rangesOf}
 use Rattle.rescue.specs.Rescue.{keptBytes, listBytes, rescueOf, recordsAfter, listAfter, keptOf, rangesNumberOf, passedOf, rescueRefusalOf}
 use Rattle.rescue.specs.Claims.{Each, among, inRecord, placesOf, Apart, listed, WholeRecords}
 use Rattle.rescue.specs.declared.RescueAnswer.the-variants.{Rescued, NoRescue}
@@ -23,8 +23,8 @@ pub record RescuedExactly : Type 0 where
   pub walk-passes : (s : List ℕ) (i n : ℕ) → i < length s → readOf (drop i s) ≡ NoRecord n → walkFrom s i ≡ passing i (walkFrom s (i + 1))
   -- every place of the bytes is passed or in a kept record, and not both; each kept place has a record, and no passed place has one
   pub every-place : (s : List ℕ) (p : ℕ) → among p (walk s .passed) ≡ (ltb p (length s) && not (inRecord p (walk s .kept)))
-  pub kept-read : (s : List ℕ) → Each (λ i. recordAt s i ≡ true) (walk s .kept)
-  pub passed-unread : (s : List ℕ) → Each (λ i. recordAt s i ≡ false) (walk s .passed)
+  pub kept-read : (s : List ℕ) → Each (λ i. hasRecord s i ≡ true) (walk s .kept)
+  pub passed-unread : (s : List ℕ) → Each (λ i. hasRecord s i ≡ false) (walk s .passed)
   -- the kept records times thirty and the passed bytes are the length
   pub bytes-counted : (s : List ℕ) → length (walk s .kept) * 30 + length (walk s .passed) ≡ length s
   -- the ranges are in order, each of a byte or more and with a byte or more before the next; together they are the passed places
@@ -49,11 +49,11 @@ pub record RescuedExactly : Type 0 where
   -- n whole records of which record m, counted from 0, has another byte at its place q: it reads no more, and every other one reads; where no thirty bytes
   -- that start inside it read either, all others are kept as they stood and it alone is passed, as one range
   pub damaged-record : (s : List ℕ) (n m q b : ℕ) → WholeRecords s n → Bytes s → m < n → q < 30 → b < 256 → (getD s (30 * m + q) 0 ≡ b → ⊥)
-      → (recordAt (set s (30 * m + q) b) (30 * m) ≡ false) × ((k : ℕ) → k < n → (k ≡ m → ⊥) → recordAt (set s (30 * m + q) b) (30 * k) ≡ true)
+      → (hasRecord (set s (30 * m + q) b) (30 * m) ≡ false) × ((k : ℕ) → k < n → (k ≡ m → ⊥) → hasRecord (set s (30 * m + q) b) (30 * k) ≡ true)
   pub damaged-alone : (s : List ℕ) (n m q b : ℕ) → WholeRecords s n → Bytes s → m < n → q < 30 → b < 256 → (getD s (30 * m + q) 0 ≡ b → ⊥)
-      → ((k : ℕ) → 0 < k → k < 30 → recordAt (set s (30 * m + q) b) (30 * m + k) ≡ false)
+      → ((k : ℕ) → 0 < k → k < 30 → hasRecord (set s (30 * m + q) b) (30 * m + k) ≡ false)
       → (keptBytes (set s (30 * m + q) b) ≡ take (30 * m) s ++ drop (30 * m + 30) s) × (rangesOf (walk (set s (30 * m + q) b) .passed) ≡ range (30 * m) 30 ∷ [])
   -- there is such a case: two records of which the first has 7 in place of another byte, with nothing that reads inside it; and a byte less in either buffer
   -- is refused
-  pub some-damaged : (s : List ℕ) × WholeRecords s 2 × Bytes s × (getD s 16 0 ≡ 7 → ⊥) × ((k : ℕ) → 0 < k → k < 30 → recordAt (set s 16 7) k ≡ false)
+  pub some-damaged : (s : List ℕ) × WholeRecords s 2 × Bytes s × (getD s 16 0 ≡ 7 → ⊥) × ((k : ℕ) → 0 < k → k < 30 → hasRecord (set s 16 7) k ≡ false)
       × (rescueOf (set s 16 7) 30 8 ≡ Rescued (record { kept = 1; ranges = 1; passed = 30 })) × (rescueOf (set s 16 7) 29 8 ≡ NoRescue 12) × (rescueOf (set s 16 7) 30 7 ≡ NoRescue 12)

@@ -10,21 +10,21 @@ use lib.Dec.{eqb, ltb, leb}
 use lib.ListN.{length}
 use borrow.Author.Tests.{lt-ltb, le-ltb, le-leb, lt-leb, eq-eqb, ne-eqb}
 use Rattle.record.specs.Format.{recordLength}
-use Rattle.rescue.specs.Walk.{Walk, recordAt, walk, walkFrom}
+use Rattle.rescue.specs.Walk.{Walk, hasRecord, walk, walkFrom}
 use Rattle.rescue.specs.Rescue.{keptCount, passedCount}
 use Rattle.rescue.specs.Claims.{Each, among, inRecord}
 use Rattle.rescue.proofs.Walks.{walk-case}
 
 -- PROMISE. Each kept place has a record, and it has its thirty bytes there.
-pub kept-read : (s : List ℕ) (i : ℕ) → Each (λ k. recordAt s k ≡ true) (walkFrom s i .kept)
-kept-read s = walk-case (λ (i : ℕ) (w : Walk). Each (λ k. recordAt s k ≡ true) (w .kept)) s (λ i h. tt) (λ i w e h p. (e, p)) (λ i w e h p. p)
+pub kept-read : (s : List ℕ) (i : ℕ) → Each (λ k. hasRecord s k ≡ true) (walkFrom s i .kept)
+kept-read s = walk-case (λ (i : ℕ) (w : Walk). Each (λ k. hasRecord s k ≡ true) (w .kept)) s (λ i h. tt) (λ i w e h p. (e, p)) (λ i w e h p. p)
 
 pub kept-within : (s : List ℕ) (i : ℕ) → Each (λ k. k + recordLength ≤ length s) (walkFrom s i .kept)
 kept-within s = walk-case (λ (i : ℕ) (w : Walk). Each (λ k. k + recordLength ≤ length s) (w .kept)) s (λ i h. tt) (λ i w e h p. (h, p)) (λ i w e h p. p)
 
 -- PROMISE. No passed place has a record.
-pub passed-unread : (s : List ℕ) (i : ℕ) → Each (λ k. recordAt s k ≡ false) (walkFrom s i .passed)
-passed-unread s = walk-case (λ (i : ℕ) (w : Walk). Each (λ k. recordAt s k ≡ false) (w .passed)) s (λ i h. tt) (λ i w e h p. p) (λ i w e h p. (e, p))
+pub passed-unread : (s : List ℕ) (i : ℕ) → Each (λ k. hasRecord s k ≡ false) (walkFrom s i .passed)
+passed-unread s = walk-case (λ (i : ℕ) (w : Walk). Each (λ k. hasRecord s k ≡ false) (w .passed)) s (λ i h. tt) (λ i w e h p. p) (λ i w e h p. (e, p))
 
 -- kept records and passed bytes make up the bytes that are left
 pub bytes-from : (s : List ℕ) (i : ℕ) → recordLength * length (walkFrom s i .kept) + length (walkFrom s i .passed) ≡ length s - i

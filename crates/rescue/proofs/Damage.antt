@@ -17,7 +17,7 @@ use Rattle.record.specs.Format.{recordLength}
 use Rattle.record.specs.Records.{readOf, isRecord}
 use Rattle.record.proofs.Kept.{read-front}
 use Rattle.record.proofs.Changed.{changed-byte}
-use Rattle.rescue.specs.Walk.{Walk, range, recordAt, walkFrom, rangesOf}
+use Rattle.rescue.specs.Walk.{Walk, range, hasRecord, walkFrom, rangesOf}
 use Rattle.rescue.specs.Rescue.{keptCount, rangesIn, recordsAt, keptBytes}
 use Rattle.rescue.specs.Claims.{placesFrom, recordPlaces, WholeRecords}
 use Rattle.rescue.proofs.Walks.{walk-ends}
@@ -29,7 +29,7 @@ use Rattle.rescue.proofs.Whole.{records-there, places-count}
 -- ---- one byte and the records around it
 
 -- before the byte, the next thirty bytes read as they did
-before : (s : List ℕ) (i p b : ℕ) → i + recordLength ≤ p → recordAt (set s p b) i ≡ recordAt s i
+before : (s : List ℕ) (i p b : ℕ) → i + recordLength ≤ p → hasRecord (set s p b) i ≡ hasRecord s i
 before s i p b h =
     let q : ℕ = p - i in
     let e : p ≡ i + q = omega arith in
@@ -39,11 +39,11 @@ before s i p b h =
     ap isRecord (sym (read-front (drop i (set s p b))) ∙ (ap readOf t ∙ read-front (drop i s)))
 
 -- and behind it
-behind : (s : List ℕ) (i p b : ℕ) → p < i → recordAt (set s p b) i ≡ recordAt s i
+behind : (s : List ℕ) (i p b : ℕ) → p < i → hasRecord (set s p b) i ≡ hasRecord s i
 behind s i p b h = ap (λ (l : List ℕ). isRecord (readOf l)) (drop-set-lt i s p b h)
 
 -- a record with another byte is none
-changed : (s : List ℕ) (i q b : ℕ) → Bytes s → recordAt s i ≡ true → q < recordLength → b < 256 → (getD s (i + q) 0 ≡ b → ⊥) → recordAt (set s (i + q) b) i ≡ false
+changed : (s : List ℕ) (i q b : ℕ) → Bytes s → hasRecord s i ≡ true → q < recordLength → b < 256 → (getD s (i + q) 0 ≡ b → ⊥) → hasRecord (set s (i + q) b) i ≡ false
 changed s i q b y e l h n = ap (λ (l : List ℕ). isRecord (readOf l)) (drop-set-add i s q b) ∙ by (readOf (drop i s)) (readOf (set (drop i s) q b)) refl refl e
   where
     part : Bytes (drop i s)
@@ -65,32 +65,32 @@ module _ (s : List ℕ) (n m q b : ℕ) (w : WholeRecords s n) (y : Bytes s) (m-
   size = length-set s (recordLength * m + q) b ∙ w .size
 
   -- the damaged record is lost
-  pub damaged-lost : recordAt t (recordLength * m) ≡ false
+  pub damaged-lost : hasRecord t (recordLength * m) ≡ false
   damaged-lost = changed s (recordLength * m) q b y (w .reads m m-in) q-in b-in other
 
   -- every other one reads as it did
-  pub others-read : (k : ℕ) → k < n → (k ≡ m → ⊥) → recordAt t (recordLength * k) ≡ true
+  pub others-read : (k : ℕ) → k < n → (k ≡ m → ⊥) → hasRecord t (recordLength * k) ≡ true
   others-read k l d = by (decLt k m)
     where
-      by : Dec (k < m) → recordAt t (recordLength * k) ≡ true
+      by : Dec (k < m) → hasRecord t (recordLength * k) ≡ true
       by (yes h) = before s (recordLength * k) (recordLength * m + q) b (omega arith) ∙ w .reads k l
       by (no h) = behind s (recordLength * k) (recordLength * m + q) b (omega (arith, h, d)) ∙ w .reads k l
 
   -- where no thirty bytes that start inside it read
-  module _ (inside : (k : ℕ) → 0 < k → k < recordLength → recordAt t (recordLength * m + k) ≡ false) where
+  module _ (inside : (k : ℕ) → 0 < k → k < recordLength → hasRecord t (recordLength * m + k) ≡ false) where
     -- the records before it
     front : (walkFrom t 0 .kept ≡ recordPlaces 0 m ++ walkFrom t (0 + recordLength * m) .kept) × (walkFrom t 0 .passed ≡ walkFrom t (0 + recordLength * m) .passed)
-    front = all-kept m t 0 (λ k l. let e : 0 + recordLength * k ≡ recordLength * k = omega arith in ap (recordAt t) e ∙ others-read k (omega arith) (λ e. omega arith))
+    front = all-kept m t 0 (λ k l. let e : 0 + recordLength * k ≡ recordLength * k = omega arith in ap (hasRecord t) e ∙ others-read k (omega arith) (λ e. omega arith))
 
     -- its places
-    unread : (k : ℕ) → recordLength * m ≤ k → k < recordLength * m + recordLength → recordAt t k ≡ false
+    unread : (k : ℕ) → recordLength * m ≤ k → k < recordLength * m + recordLength → hasRecord t k ≡ false
     unread k p l = by (ℕ-discrete k (recordLength * m))
       where
-        by : Dec (k ≡ recordLength * m) → recordAt t k ≡ false
-        by (yes e) = ap (recordAt t) e ∙ damaged-lost
+        by : Dec (k ≡ recordLength * m) → hasRecord t k ≡ false
+        by (yes e) = ap (hasRecord t) e ∙ damaged-lost
         by (no e) =
             let f : k ≡ recordLength * m + (k - recordLength * m) = omega arith in
-            ap (recordAt t) f ∙ inside (k - recordLength * m) (omega (arith, e)) (omega arith)
+            ap (hasRecord t) f ∙ inside (k - recordLength * m) (omega (arith, e)) (omega arith)
 
     middle : (walkFrom t (recordLength * m) .kept ≡ walkFrom t (recordLength * m + recordLength) .kept)
         × (walkFrom t (recordLength * m) .passed ≡ placesFrom (recordLength * m) recordLength ++ walkFrom t (recordLength * m + recordLength) .passed)
@@ -105,7 +105,7 @@ module _ (s : List ℕ) (n m q b : ℕ) (w : WholeRecords s n) (y : Bytes s) (m-
         let f = walk-ends t (recordLength * m + recordLength + recordLength * rest) (omega (arith, size)) in
         let r = all-kept rest t (recordLength * m + recordLength) (λ k l.
         let e : recordLength * m + recordLength + recordLength * k ≡ recordLength * (suc m + k) = omega arith in
-        ap (recordAt t) e ∙ others-read (suc m + k) (omega arith) (λ e. omega arith)) in (
+        ap (hasRecord t) e ∙ others-read (suc m + k) (omega arith) (λ e. omega arith)) in (
           r .0 ∙ (ap (λ (x : Walk). recordPlaces (recordLength * m + recordLength) rest ++ x .kept) f ∙ append-nil (recordPlaces (recordLength * m + recordLength) rest)),
           r .1 ∙ ap (λ (x : Walk). x .passed) f,
         )

@@ -14,7 +14,7 @@ use Rattle.instants.specs.Instants.{outside}
 use Rattle.record.specs.Format.{recordLength}
 use Rattle.record.specs.Records.{readOf}
 use Rattle.rescue.specs.declared.RescueAnswer.the-variants.{Rescued, NoRescue}
-use Rattle.rescue.specs.Walk.{recordAt, stepping, walkFrom, rangesOf}
+use Rattle.rescue.specs.Walk.{hasRecord, stepping, walkFrom, rangesOf}
 use Rattle.rescue.specs.Rescue.{keptCount, rangesIn, passedCount, rescueOf}
 use Rattle.rescue.specs.Claims.{placesFrom, WholeRecords}
 
@@ -64,15 +64,15 @@ pub two-whole : WholeRecords two 2
 unfolding readOf wordSum outside
 two-whole = record { size = refl; reads = by }
   where
-    by : (k : ℕ) → k < 2 → recordAt two (recordLength * k) ≡ true
+    by : (k : ℕ) → k < 2 → hasRecord two (recordLength * k) ≡ true
     by zero h = refl
     by (suc zero) h = refl
     by (suc (suc k)) h = absurd (omega arith)
 
 -- nothing reads at the places inside the damaged record
-pub none-inside : (k : ℕ) → 0 < k → k < recordLength → recordAt damaged k ≡ false
+pub none-inside : (k : ℕ) → 0 < k → k < recordLength → hasRecord damaged k ≡ false
 unfolding readOf wordSum outside
-none-inside k l h = not-true (recordAt damaged k) (at-places (λ i. not (recordAt damaged i)) 1 29 tt k l (omega arith))
+none-inside k l h = not-true (hasRecord damaged k) (at-places (λ i. not (hasRecord damaged i)) 1 29 tt k l (omega arith))
   where
     not-true : (b : Bool) → T (not b) → b ≡ false
     not-true false t = refl

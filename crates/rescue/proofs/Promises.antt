@@ -18,7 +18,7 @@ use Rattle.record.specs.Format.{recordLength}
 use Rattle.record.specs.Records.{readOf, isRecord}
 use Rattle.record.proofs.Kept.{read-front}
 use Rattle.rescue.specs.declared.RescueAnswer.the-variants.{Rescued, NoRescue}
-use Rattle.rescue.specs.Walk.{Range, range, walk, recordAt}
+use Rattle.rescue.specs.Walk.{Range, range, walk, hasRecord}
 use Rattle.rescue.specs.Rescue.{mostBytes, entryLength, keptCount, rangesIn, passedCount, countsOf, recordsAt, keptBytes, listBytes, rescueCases, rescueOf, recordsAfter, listAfter, keptOf, rangesNumberOf, passedOf, rescueRefusalOf}
 use Rattle.rescue.specs.Claims.{Each, listed, WholeRecords}
 use Rattle.rescue.proofs.Entries.{list-length}
@@ -78,8 +78,8 @@ rescue-most s h = (omega (arith, kept-few s), omega (arith, ranges-few s))
 -- ---- what is written
 
 -- pieces that read, one behind the other, are whole records
-pieces-whole : (s is : List ℕ) → Each (λ i. recordAt s i ≡ true) is → Each (λ i. i + recordLength ≤ length s) is
-    → (k : ℕ) → k < length is → recordAt (recordsAt s is) (recordLength * k) ≡ true
+pieces-whole : (s is : List ℕ) → Each (λ i. hasRecord s i ≡ true) is → Each (λ i. i + recordLength ≤ length s) is
+    → (k : ℕ) → k < length is → hasRecord (recordsAt s is) (recordLength * k) ≡ true
 pieces-whole s [] e w k h = absurd (omega arith)
 pieces-whole s (i ∷ is) e w zero h =
     let p : List ℕ = take recordLength (drop i s) in
@@ -89,7 +89,7 @@ pieces-whole s (i ∷ is) e w (suc k) h =
     let p : List ℕ = take recordLength (drop i s) in
     let l : length p ≡ recordLength = length-take-le recordLength (drop i s) (omega (arith, length-drop i s, w .0)) in
     let f : recordLength * suc k ≡ length p + recordLength * k = omega (arith, l) in
-    ap (λ (j : ℕ). recordAt (p ++ recordsAt s is) j) f
+    ap (λ (j : ℕ). hasRecord (p ++ recordsAt s is) j) f
     ∙ (ap (λ (x : List ℕ). isRecord (readOf x)) (drop-append-add p (recordsAt s is) (recordLength * k)) ∙ pieces-whole s is (e .1) (w .1) k (omega arith))
 
 -- PROMISE. The kept records are whole records, one behind the other.

@@ -14,7 +14,7 @@ use Rattle.record.specs.declared.ReadAnswer.the-variants.{IsRecord, NoRecord}
 use Rattle.record.specs.Format.{recordLength}
 use Rattle.record.specs.Records.{readOf, isRecord}
 use Rattle.record.proofs.Forms.{was-read}
-use Rattle.rescue.specs.Walk.{Walk, recordAt, ended, keeping, passing, stepping, walkFrom}
+use Rattle.rescue.specs.Walk.{Walk, hasRecord, ended, keeping, passing, stepping, walkFrom}
 
 -- ---- a record takes thirty bytes
 
@@ -26,14 +26,14 @@ long-enough s e = by (readOf s) refl e
     by (IsRecord r) q e = was-read s r q .form .long
     by (NoRecord n) q e = absurd (true≢false (sym e))
 
-pub record-within : (s : List ℕ) (i : ℕ) → recordAt s i ≡ true → i + recordLength ≤ length s
+pub record-within : (s : List ℕ) (i : ℕ) → hasRecord s i ≡ true → i + recordLength ≤ length s
 record-within s i e = omega (arith, long-enough (drop i s) e, length-drop i s)
 
 -- ---- a step
 
 -- one step, before whatever comes behind it
 abbrev step : List ℕ → ℕ → (behind next : Walk) → Walk
-step s i behind next = cond (ltb i (length s)) (cond (recordAt s i) (keeping i behind) (passing i next)) ended
+step s i behind next = cond (ltb i (length s)) (cond (hasRecord s i) (keeping i behind) (passing i next)) ended
 
 at-end : (k : ℕ) (s : List ℕ) (i : ℕ) → length s ≤ i → stepping k s i ≡ ended
 unfolding stepping
@@ -67,13 +67,13 @@ unfolding walkFrom
 walk-ends s i h = at-end (length s - i) s i h
 
 -- PROMISE. Where the next thirty bytes read as a record, it is kept and the walk goes on behind it.
-pub walk-keeps : (s : List ℕ) (i : ℕ) → recordAt s i ≡ true → walkFrom s i ≡ keeping i (walkFrom s (i + recordLength))
+pub walk-keeps : (s : List ℕ) (i : ℕ) → hasRecord s i ≡ true → walkFrom s i ≡ keeping i (walkFrom s (i + recordLength))
 walk-keeps s i e =
     let h : i < length s = omega (arith, record-within s i e) in
     one-step s i h ∙ rw (lt-ltb i (length s) h, e) refl
 
 -- PROMISE. Where they do not, one byte is passed.
-pub walk-passes : (s : List ℕ) (i : ℕ) → i < length s → recordAt s i ≡ false → walkFrom s i ≡ passing i (walkFrom s (i + 1))
+pub walk-passes : (s : List ℕ) (i : ℕ) → i < length s → hasRecord s i ≡ false → walkFrom s i ≡ passing i (walkFrom s (i + 1))
 walk-passes s i h e = one-step s i h ∙ rw (lt-ltb i (length s) h, e) refl
 
 -- ---- the rule, by cases
@@ -81,13 +81,13 @@ walk-passes s i h e = one-step s i h ∙ rw (lt-ltb i (length s) h, e) refl
 -- what holds at the end, and of a step where it holds of what is behind the step, holds of every walk
 module _ (P : ℕ → Walk → Type 0) (s : List ℕ)
     (end : (i : ℕ) → length s ≤ i → P i ended)
-    (keep : (i : ℕ) (w : Walk) → recordAt s i ≡ true → i + recordLength ≤ length s → P (i + recordLength) w → P i (keeping i w))
-    (pass : (i : ℕ) (w : Walk) → recordAt s i ≡ false → i < length s → P (i + 1) w → P i (passing i w)) where
+    (keep : (i : ℕ) (w : Walk) → hasRecord s i ≡ true → i + recordLength ≤ length s → P (i + recordLength) w → P i (keeping i w))
+    (pass : (i : ℕ) (w : Walk) → hasRecord s i ≡ false → i < length s → P (i + 1) w → P i (passing i w)) where
   at-place : (i : ℕ) → ((j : ℕ) → i < j → P j (walkFrom s j)) → Dec (i < length s) → P i (walkFrom s i)
   at-place i on (no l) = subst (P i) (sym (walk-ends s i (omega (arith, l)))) (end i (omega (arith, l)))
-  at-place i on (yes l) = by (recordAt s i) refl
+  at-place i on (yes l) = by (hasRecord s i) refl
     where
-      by : (b : Bool) → recordAt s i ≡ b → P i (walkFrom s i)
+      by : (b : Bool) → hasRecord s i ≡ b → P i (walkFrom s i)
       by true e = subst (P i) (sym (walk-keeps s i e)) (keep i (walkFrom s (i + recordLength)) e (record-within s i e) (on (i + recordLength) (omega arith)))
       by false e = subst (P i) (sym (walk-passes s i l e)) (pass i (walkFrom s (i + 1)) e l (on (i + 1) (omega arith)))
 

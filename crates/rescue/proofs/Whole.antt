@@ -6,7 +6,7 @@ use native.Mathlib.Omega.{arith}
 use lib.ListN.{length, take, drop}
 use lib.Seq.{take-add, take-all, drop-drop}
 use Rattle.record.specs.Format.{recordLength}
-use Rattle.rescue.specs.Walk.{Walk, recordAt, walkFrom, walk}
+use Rattle.rescue.specs.Walk.{Walk, hasRecord, walkFrom, walk}
 use Rattle.rescue.specs.Rescue.{keptCount, recordsAt, keptBytes}
 use Rattle.rescue.specs.Claims.{recordPlaces, WholeRecords}
 use Rattle.rescue.proofs.Walks.{walk-ends}
@@ -29,7 +29,7 @@ whole-walk : (s : List ℕ) (n : ℕ) → WholeRecords s n → (walkFrom s 0 .ke
 whole-walk s n w =
     let e : 0 + recordLength * n ≡ length s = omega (arith, w .size) in
     let f = walk-ends s (0 + recordLength * n) (omega (arith, e)) in
-    let r = all-kept n s 0 (λ k l. let g : 0 + recordLength * k ≡ recordLength * k = omega arith in ap (recordAt s) g ∙ w .reads k l) in (
+    let r = all-kept n s 0 (λ k l. let g : 0 + recordLength * k ≡ recordLength * k = omega arith in ap (hasRecord s) g ∙ w .reads k l) in (
       r .0 ∙ (ap (λ (x : Walk). recordPlaces 0 n ++ x .kept) f ∙ append-nil (recordPlaces 0 n)),
       r .1 ∙ ap (λ (x : Walk). x .passed) f,
     )

@@ -7,7 +7,7 @@ use lib.Dec.{eqb, ltb, leb}
 use lib.ListN.{length, drop}
 use Rattle.bigendian.specs.Numbers.{numberAt}
 use Rattle.record.specs.Format.{recordLength}
-use Rattle.rescue.specs.Walk.{Range, range, recordAt}
+use Rattle.rescue.specs.Walk.{Range, range, hasRecord}
 use Rattle.rescue.specs.Rescue.{entryLength}
 
 -- something holds of every place of a list
@@ -58,4 +58,4 @@ recordPlaces i (suc n) = i ∷ recordPlaces (i + recordLength) n
 -- s is n records, one behind the other, with nothing between
 pub record WholeRecords (s : List ℕ) (n : ℕ) : Type 0 where
   pub size : length s ≡ recordLength * n
-  pub reads : (k : ℕ) → k < n → recordAt s (recordLength * k) ≡ true
+  pub reads : (k : ℕ) → k < n → hasRecord s (recordLength * k) ≡ true

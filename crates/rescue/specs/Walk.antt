@@ -10,8 +10,8 @@ use Rattle.record.specs.Records.{readOf, isRecord}
 -- ---- the rule
 
 -- the next thirty bytes at place i read as a record
-abbrev pub recordAt : List ℕ → ℕ → Bool
-recordAt s i = isRecord (readOf (drop i s))
+abbrev pub hasRecord : List ℕ → ℕ → Bool
+hasRecord s i = isRecord (readOf (drop i s))
 
 -- what a walk finds, in its order: the places at which a kept record starts, and the places of the passed bytes
 pub record Walk : Type 0 where
@@ -36,7 +36,7 @@ stepping zero s i = ended
 stepping (suc k) s i =
     let behind = stepping k s (i + recordLength) in
     let next = stepping k s (i + 1) in
-    cond (ltb i (length s)) (cond (recordAt s i) (keeping i behind) (passing i next)) ended
+    cond (ltb i (length s)) (cond (hasRecord s i) (keeping i behind) (passing i next)) ended
 
 -- the walk from place i on, of as many steps as there are bytes left, which is enough since each step takes one or more
 unfoldable pub walkFrom : List ℕ → ℕ → Walk

@@ -4,7 +4,7 @@ use mathlib.Core.Path.{_≡_, sym, _∙_}
 use native.Mathlib.Omega.{arith}
 use denote.Ref.{now}
 use lib.ListN.{length}
-use Rattle.rescue.specs.Walk.{recordAt}
+use Rattle.rescue.specs.Walk.{hasRecord}
 use Rattle.rescue.proofs.Hops.{Looked, looked-none, looked-on, looked-found, looked-end, lent-reads}
 use borrow.Author.Needs.{needs}
 use Rattle.rescue.proofs.next_record.Statement.{statement}
@@ -17,7 +17,7 @@ abbrev μ-loop : tie.MeasureT-loop
 μ-loop s from at₀ at = length s - at
 
 -- what the call of `reads` says of the place
-says : (c : tie.After-reads Inv-loop μ-loop) → let l = c .before .before .before in c .reads .result ≡ recordAt (now (l .before .before .args .s)) (l .loop .at)
+says : (c : tie.After-reads Inv-loop μ-loop) → let l = c .before .before .before in c .reads .result ≡ hasRecord (now (l .before .before .args .s)) (l .loop .at)
 says c = let l = c .before .before .before in c .reads .ensures ∙ lent-reads (now (l .before .before .args .s)) (l .loop .at)
 
 loop-holds : tie.Need-loop-holds Inv-loop μ-loop

@@ -7,7 +7,7 @@ use native.Mathlib.Omega.{arith}
 use denote.Ref.{now}
 use lib.ListN.{length}
 use borrow.Author.Tests.{not-true, not-false}
-use Rattle.rescue.specs.Walk.{recordAt}
+use Rattle.rescue.specs.Walk.{hasRecord}
 use Rattle.rescue.proofs.Walks.{record-within}
 use Rattle.rescue.proofs.Hops.{Linked, linked-none, linked-on, linked-end, none-at-end, lent-reads, lent-headless}
 use borrow.Author.Needs.{needs}
@@ -31,11 +31,11 @@ abbrev asked : tie.After-reads-behind Inv-loop μ-loop → tie.At-loop Inv-loop 
 asked c = headed (c .before .before .before)
 
 -- what the call of `reads_behind` says of the place
-says : (c : tie.After-reads-behind Inv-loop μ-loop) → c .reads-behind .result ≡ recordAt (bytes (asked c)) (asked c .loop .at)
+says : (c : tie.After-reads-behind Inv-loop μ-loop) → c .reads-behind .result ≡ hasRecord (bytes (asked c)) (asked c .loop .at)
 says c = c .reads-behind .ensures ∙ lent-reads (bytes (asked c)) (asked c .loop .at)
 
 -- a record stands there
-stands : (c : tie.Else2 Inv-loop μ-loop) → recordAt (bytes (asked (c .before))) (asked (c .before) .loop .at) ≡ true
+stands : (c : tie.Else2 Inv-loop μ-loop) → hasRecord (bytes (asked (c .before))) (asked (c .before) .loop .at) ≡ true
 stands c = sym (says (c .before)) ∙ not-false _ (c .if2 .left)
 
 loop-holds : tie.Need-loop-holds Inv-loop μ-loop
