@@ -19,9 +19,9 @@ use Rattle.record.proofs.Kept.{read-front}
 use Rattle.record.proofs.Changed.{changed-byte}
 use Rattle.rescue.specs.Walk.{Walk, range, hasRecord, walkFrom, rangesOf}
 use Rattle.rescue.specs.Rescue.{keptCount, rangesIn, recordsAt, keptBytes}
-use Rattle.rescue.specs.Claims.{placesFrom, recordPlaces, WholeRecords}
+use Rattle.rescue.specs.Claims.{placesFrom, WholeRecords}
 use Rattle.rescue.proofs.Walks.{walk-ends}
-use Rattle.rescue.proofs.Hops.{over, all-kept}
+use Rattle.rescue.proofs.Hops.{recordPlaces, over, all-kept}
 use Rattle.rescue.proofs.Ranges.{joined-places}
 use Rattle.rescue.proofs.Entries.{records-append}
 use Rattle.rescue.proofs.Whole.{records-there, places-count}

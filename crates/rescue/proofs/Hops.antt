@@ -3,7 +3,7 @@
 use Prim.Native.Nat.{ℕ, zero, suc, _+_, _-_, _*_, _<_, _≤_}
 use mathlib.Core.Path.{_≡_, refl, ap, sym, _∙_}
 use mathlib.Core.Bool.{Bool, true, false, true≢false}
-use mathlib.Core.List.{List, _∷_, _++_}
+use mathlib.Core.List.{List, [], _∷_, _++_}
 use native.Mathlib.Omega.{arith}
 use native.Mathlib.Decide.{ℕ-discrete, decLt}
 use lib.ListN.{length, drop, take, length-drop}
@@ -14,7 +14,7 @@ use Rattle.record.specs.Records.{readOf, isRecord}
 use Rattle.record.proofs.Forms.{head-needed}
 use Rattle.rescue.specs.Walk.{Walk, hasRecord, walkFrom}
 use Rattle.rescue.specs.Inner.{Hop, Chain}
-use Rattle.rescue.specs.Claims.{placesFrom, recordPlaces}
+use Rattle.rescue.specs.Claims.{placesFrom}
 use Rattle.rescue.proofs.Walks.{record-within, walk-keeps, walk-passes}
 
 -- ---- looking for the next record
@@ -99,6 +99,11 @@ over (suc n) s i h f =
       ap (λ (x : Walk). x .kept) w ∙ (r .0 ∙ ap (λ (k : ℕ). walkFrom s k .kept) e),
       ap (λ (x : Walk). x .passed) w ∙ ap (λ (l : List ℕ). i ∷ l) (r .1 ∙ ap (λ (k : ℕ). placesFrom (i + 1) n ++ walkFrom s k .passed) e),
     )
+
+-- n places from i on, thirty apart
+abbrev pub recordPlaces : ℕ → ℕ → List ℕ
+recordPlaces i zero = []
+recordPlaces i (suc n) = i ∷ recordPlaces (i + recordLength) n
 
 -- over records that follow each other
 pub all-kept : (n : ℕ) (s : List ℕ) (i : ℕ) → ((k : ℕ) → k < n → hasRecord s (i + recordLength * k) ≡ true)

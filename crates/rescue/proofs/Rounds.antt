@@ -15,9 +15,8 @@ use Rattle.record.specs.Format.{recordLength}
 use Rattle.rescue.specs.Walk.{Range, range, walkFrom, rangesOf}
 use Rattle.rescue.specs.Rescue.{entryLength, keptCount, rangesIn, passedCount, recordsAt, keptBytes, listBytes}
 use Rattle.rescue.specs.Inner.{Hop, Chain, rangeTo, Fits}
-use Rattle.rescue.specs.Claims.{recordPlaces}
 use Rattle.rescue.proofs.Walks.{walk-ends}
-use Rattle.rescue.proofs.Hops.{hop-kept, chain-kept, chain-passed, chain-within}
+use Rattle.rescue.proofs.Hops.{recordPlaces, hop-kept, chain-kept, chain-passed, chain-within}
 use Rattle.rescue.proofs.Ranges.{hop-ranges, ranges-few}
 use Rattle.rescue.proofs.Entries.{list-length, list-append, records-length, records-append}
 use Rattle.rescue.proofs.Covers.{kept-within, bytes-counted}

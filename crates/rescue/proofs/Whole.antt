@@ -8,9 +8,9 @@ use lib.Seq.{take-add, take-all, drop-drop}
 use Rattle.record.specs.Format.{recordLength}
 use Rattle.rescue.specs.Walk.{Walk, hasRecord, walkFrom, walk}
 use Rattle.rescue.specs.Rescue.{keptCount, recordsAt, keptBytes}
-use Rattle.rescue.specs.Claims.{recordPlaces, WholeRecords}
+use Rattle.rescue.specs.Claims.{WholeRecords}
 use Rattle.rescue.proofs.Walks.{walk-ends}
-use Rattle.rescue.proofs.Hops.{all-kept}
+use Rattle.rescue.proofs.Hops.{recordPlaces, all-kept}
 
 -- the records at places thirty apart are the bytes there
 pub records-there : (n : ℕ) (s : List ℕ) (i : ℕ) → recordsAt s (recordPlaces i n) ≡ take (recordLength * n) (drop i s)

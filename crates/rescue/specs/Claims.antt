@@ -50,11 +50,6 @@ abbrev pub listed : ℕ → List ℕ → List Range
 listed zero l = []
 listed (suc n) l = range (numberAt l 0 4) (numberAt l 4 4) ∷ listed n (drop entryLength l)
 
--- n places from i on, thirty apart
-abbrev pub recordPlaces : ℕ → ℕ → List ℕ
-recordPlaces i zero = []
-recordPlaces i (suc n) = i ∷ recordPlaces (i + recordLength) n
-
 -- s is n records, one behind the other, with nothing between
 pub record WholeRecords (s : List ℕ) (n : ℕ) : Type 0 where
   pub size : length s ≡ recordLength * n
