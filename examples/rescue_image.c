@@ -12,7 +12,8 @@
  * where the image goes on, such a place is undecided. The next window starts at the first of them, so that at most 29
  * bytes are looked at twice. All places before it were decided with 30 bytes at hand, as in one walk.
  *
- * Status 0: the image was walked to its end; 1: a file could not be read or written; 2: wrong usage.
+ * Status 0: the image was walked to its end; 1: a file could not be read or written, and of an image that can be read
+ * in part that part was walked; 2: wrong usage.
  */
 #define _POSIX_C_SOURCE 200809L
 #include <enfysgar.h>
@@ -94,20 +95,20 @@ static uint32_t walk_window(uint64_t place, size_t length, int last, FILE *kept,
 }
 
 /*
- * Walks the image window by window. 0, or 1 where something could not be read or written: what was rescued before that
- * stays.
+ * Walks the image window by window, to its end or to where it cannot be read. 0, or 1 where something could not be read
+ * or written: what was rescued before that stays.
  */
 static int rescue(FILE *image, const char *image_name, FILE *kept, const char *kept_name)
 {
     uint64_t place = 0; /* of the window in the image */
     size_t held = 0;    /* undecided bytes, which are the front of the next window */
-    int last = 0;
+    int last = 0, unread = 0;
 
     while (!last) {
         size_t length = held + fread(window + held, 1, WINDOW - held, image), decided;
 
         if (ferror(image))
-            return trouble(image_name, strerror(errno));
+            unread = errno;
         last = length < WINDOW;
         /* A window is never too long, and these buffers are never too short. */
         if (walk_window(place, length, last, kept, &decided) != ENFYS_OK)
@@ -121,7 +122,7 @@ static int rescue(FILE *image, const char *image_name, FILE *kept, const char *k
     end_range();
     printf("kept %" PRIu64 " records, passed %" PRIu64 " bytes in %" PRIu64 " ranges\n", walk.kept, walk.passed,
            walk.ranges);
-    return 0;
+    return unread != 0 ? trouble(image_name, strerror(unread)) : 0;
 }
 
 /* Whether a name is that of the open image. Writing there would destroy what is to be rescued. */

@@ -84,7 +84,7 @@ def images():
         yield from around(size)
     for step in range(64):
         yield across(step)
-    disk = records(40_000)
+    disk = records(120_000)
     for size in (512, 4096):
         for kind in ("zeros", "noise", "shifted", "twice", "lost"):
             yield sectors(disk, size, kind)
@@ -162,7 +162,7 @@ def from_a_pipe(folder):
 
 
 def troubles(folder):
-    """What cannot be read or written, and wrong usage: a status, a message, and no line of totals."""
+    """What cannot be read or written, and wrong usage: a status and a message."""
     image, kept, good = os.path.join(folder, "image"), os.path.join(folder, "kept"), records(5000)
     with open(image, "wb") as file:
         file.write(good)

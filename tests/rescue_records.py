@@ -1,5 +1,5 @@
 #!/usr/bin/env python3
-"""Feeds the program rescue_records some hundred inputs, of no byte to more than it takes, and compares what it writes to standard
+"""Feeds the program rescue_records some six hundred inputs, of no byte to more than it takes, and compares what it writes to standard
 output and to standard error with a walk of our own (tests/rescue_rules.py). The program is target/bin/rescue_records or what
 PROGRAM names.
 
@@ -19,6 +19,7 @@ ROOT = os.path.dirname(os.path.dirname(os.path.abspath(__file__)))
 PROGRAM = os.environ.get("PROGRAM", os.path.join(ROOT, "target/bin/rescue_records"))
 REFUSED = b"refused 25\n"
 NOT_WRITTEN = b"rescue_records: the answer could not be written\n"
+NOT_READ = b"rescue_records: the input was not read to its end\n"
 
 
 def expected(data, mistake=None):
@@ -42,7 +43,7 @@ def inputs():
     found += [record() + damaged() + record() for _ in range(60)]
     found += [pieces(RNG.choice([60, 300, 2000])) for _ in range(300)]
     found += [pieces(30_000, good=20), pieces(60_000, good=60)]
-    # the longest input, one that is longer, and what is there in a buffer of either length
+    # the longest input, longer ones, and lengths around those that the program may read at once
     alternating = b"".join(b"\x00" + record() for _ in range(2200))
     for size in (4095, 4096, 4097, 32_768, MOST - 31, MOST - 30, MOST - 16, MOST - 1, MOST, MOST + 1, MOST + 2, MOST + 30, 2 * MOST, 200_000):
         found += [bytes(size), RNG.randbytes(size), records(size // RECORD + 1)[:size], pieces(size)[:size]]
@@ -98,20 +99,23 @@ def slow_pipes():
 
 
 def no_input():
-    """Standard input that is closed, empty, or a file that can be sought in."""
-    closed = subprocess.run(["sh", "-c", 'exec "$0" <&-', PROGRAM], stdout=subprocess.PIPE, stderr=subprocess.PIPE, check=False)
-    compare(b"", closed.returncode, (closed.stdout, closed.stderr), " (standard input is closed)")
+    """Standard input that cannot be read, which is said first: it is closed, or a folder; or that is empty, or a file that can be sought in."""
+    for redirect in ("<&-", "</"):
+        done = subprocess.run(["sh", "-c", f'exec "$0" {redirect}', PROGRAM], stdout=subprocess.PIPE, stderr=subprocess.PIPE, check=False)
+        if not done.stderr.startswith(NOT_READ):
+            fail(b"", done.stderr, NOT_READ, f" ({redirect})")
+        compare(b"", done.returncode, (done.stdout, done.stderr[len(NOT_READ):]), f" ({redirect})")
     with open(os.devnull, "rb") as nothing, open(__file__, "rb") as this:
         for file in (nothing, this):
             done = subprocess.run([PROGRAM], stdin=file, stdout=subprocess.PIPE, stderr=subprocess.PIPE, check=False)
             with open(file.name, "rb") as again:
                 compare(again.read(), done.returncode, (done.stdout, done.stderr), f" ({file.name})")
-    return 3
+    return 4
 
 
 def said_so(data, said):
-    """Whether it is said once that the answer could not be written, beside the lines of the answer or without them."""
-    return said.count(NOT_WRITTEN) == 1 and said.replace(NOT_WRITTEN, b"") in (b"", expected(data)[1])
+    """Whether all lines are there, and behind them that the answer could not be written."""
+    return said == expected(data)[1] + NOT_WRITTEN
 
 
 def not_written():
@@ -133,6 +137,10 @@ def not_written():
             if not ignored and done.returncode != -signal.SIGPIPE:
                 fail(data, done.stderr, b"the end by SIGPIPE", f" (status {done.returncode}, a pipe that nobody reads)")
         count += 4
+    # no record is nothing to write
+    for redirect in (">/dev/full", ">&-"):
+        done = subprocess.run(["sh", "-c", f'exec "$0" {redirect}', PROGRAM], input=bytes(40), stderr=subprocess.PIPE, check=False)
+        compare(bytes(40), done.returncode, (b"", done.stderr), f" ({redirect}, and no record)")
     # where standard error is lost, the records are not; with both lost it still ends
     for data in (record(), pieces(3000), bytes(100), bytes(MOST + 1), b""):
         for redirect in ("2>/dev/full", "2>&-"):

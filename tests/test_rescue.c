@@ -236,7 +236,7 @@ static void far_above(void)
     struct rescue rescue;
 
     if (many == MAP_FAILED) {
-        perror("mmap");
+        differs("mmap", "nothing", "memory that is not there", "%zu bytes", (size_t)(FAR + 2 * RESCUE_MOST));
         return;
     }
     tried = "far too many bytes";
@@ -286,6 +286,32 @@ static void by_hand(void)
     SAME_U(enfys_rescue_passed(bytes, length, 30, 16), 5, "the record of day 54465");
 }
 
+/*
+ * Three records of which the first, with byte 5 damaged, costs two: 30 bytes from place 16 on read as a record that
+ * nobody wrote, and with it goes the front of the second.
+ */
+static void two_lost(void)
+{
+    static const uint8_t three[90] = {
+        0x00, 0x1e, 0x01, 0x00, 0x00, 0x00, 0x7f, 0x77, 0x00, 0x00, 0x00, 0xe8, 0x10, 0x27, 0xc4, 0xd1, 0x00, 0x1e,
+        0x01, 0x00, 0x00, 0x00, 0xd4, 0xc0, 0x00, 0x00, 0x00, 0x00, 0xd3, 0xad, 0x00, 0x1e, 0x01, 0x00, 0x00, 0x00,
+        0x77, 0x0b, 0x00, 0x00, 0x00, 0x6f, 0x73, 0x11, 0x6a, 0xcc, 0x1b, 0xcc, 0xce, 0xa6, 0x96, 0x76, 0x2e, 0x61,
+        0x16, 0xc6, 0xe9, 0xc9, 0xf9, 0xb3, 0x00, 0x1e, 0x01, 0x00, 0x00, 0x00, 0xd4, 0xc1, 0x00, 0x00, 0x00, 0x20,
+        0x00, 0x00, 0x00, 0x00, 0x00, 0x00, 0x00, 0x00, 0x00, 0x00, 0x00, 0x00, 0x00, 0x00, 0x00, 0x00, 0x2a, 0x01,
+    };
+    static const uint8_t list[16] = {0, 0, 0, 0, 0, 0, 0, 16, 0, 0, 0, 46, 0, 0, 0, 14};
+    uint8_t records[90] = {0}, ranges[16] = {0};
+
+    length = 0;
+    add(three, sizeof three);
+    SAME_U(enfys_rescue_kept(bytes, length, 90, 0), 3, "three records");
+    bytes[5] = 1;
+    SAME_U(enfys_rescue(bytes, length, records, 90, ranges, 16), 0, "three records, the first damaged");
+    SAME_U(memcmp(records, bytes + 16, 30) | memcmp(records + 30, three + 60, 30) | memcmp(ranges, list, 16), 0,
+           "three records, the first damaged: what is kept and passed");
+    each("three records, the first damaged", 3);
+}
+
 int main(int argc, char **argv)
 {
     static const size_t sizes[] = {RESCUE_MOST - 16, RESCUE_MOST - 1, RESCUE_MOST};
@@ -298,6 +324,7 @@ int main(int argc, char **argv)
         back[b] = lent(LONGEST + GUARD);
     }
     by_hand();
+    two_lost();
     around_a_record();
     overlaps();
     far_above();

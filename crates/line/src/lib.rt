@@ -1,4 +1,4 @@
-// The program's line: five decimal numbers of 1 to 10 digits, one space between and a newline after.
+// The line of run_day: five decimal numbers of 1 to 10 digits, one space between and a newline after.
 ghost use mathlib.Core.Path.{_≡_};
 ghost use lib.ListN.{drop};
 ghost use Rattle.line.specs.Lines.{isDigit, readNumber, lineOf};

@@ -14,7 +14,7 @@ use Rattle.rescue.proofs.Covers.{every-place, kept-read, passed-unread, bytes-c
 use Rattle.rescue.proofs.Ranges.{ranges-apart, places-of-ranges}
 use Rattle.rescue.proofs.Promises.{rescue-refusal, rescue-numbers, rescue-buffers, rescue-most, kept-whole, list-reads-back}
 use Rattle.rescue.proofs.Whole.{whole-kept}
-use Rattle.rescue.proofs.Damage.{damaged-lost, others-read, others-kept, one-range}
+use Rattle.rescue.proofs.Damage.{damaged-lost, others-read, others-kept, one-range, one-lost}
 use Rattle.rescue.proofs.Examples.{two, two-whole, two-bytes, none-inside, damaged-answers}
 use Rattle.promises.specs.Rescued.{RescuedExactly}
 
@@ -50,6 +50,6 @@ rescued-exactly = record {
   always-room = room;
   whole-kept = whole-kept;
   damaged-record = λ s n m q b w y h k l d. (damaged-lost s n m q b w y h k l d, others-read s n m q b w y h k l d);
-  damaged-alone = λ s n m q b w y h k l d i. (others-kept s n m q b w y h k l d i, one-range s n m q b w y h k l d i);
+  damaged-alone = λ s n m q b w y h k l d i. (others-kept s n m q b w y h k l d i, one-range s n m q b w y h k l d i, one-lost s n m q b w y h k l d i);
   some-damaged = (two, two-whole, two-bytes, (λ e. absurd (omega arith)), none-inside, damaged-answers .0, damaged-answers .1, damaged-answers .2);
 }

@@ -1,6 +1,6 @@
 -- Demand 2, of service (i): records rescued from damaged bytes. What is kept and passed is said of the walk, for any bytes; then of the numbers and buffers
 -- of an answer.
-use Prim.Native.Nat.{ℕ, _+_, _*_, _≤_, _<_}
+use Prim.Native.Nat.{ℕ, suc, _+_, _*_, _≤_, _<_}
 use mathlib.Core.Path.{_≡_}
 use mathlib.Core.Bool.{true, false, not, _&&_}
 use mathlib.Core.List.{List, [], _∷_, _++_}
@@ -53,6 +53,7 @@ pub record RescuedExactly : Type 0 where
   pub damaged-alone : (s : List ℕ) (n m q b : ℕ) → WholeRecords s n → Bytes s → m < n → q < 30 → b < 256 → (getD s (30 * m + q) 0 ≡ b → ⊥)
       → ((k : ℕ) → 0 < k → k < 30 → hasRecord (set s (30 * m + q) b) (30 * m + k) ≡ false)
       → (keptBytes (set s (30 * m + q) b) ≡ take (30 * m) s ++ drop (30 * m + 30) s) × (rangesOf (walk (set s (30 * m + q) b) .passed) ≡ range (30 * m) 30 ∷ [])
+      × (suc (length (walk (set s (30 * m + q) b) .kept)) ≡ n)
   -- there is such a case: two records of which the first has 7 in place of another byte, with nothing that reads inside it; and a byte less in either buffer
   -- is refused
   pub some-damaged : (s : List ℕ) × WholeRecords s 2 × Bytes s × (getD s 16 0 ≡ 7 → ⊥) × ((k : ℕ) → 0 < k → k < 30 → hasRecord (set s 16 7) k ≡ false)

@@ -15,10 +15,11 @@ use Rattle.rescue.specs.Rescue.{keptCount, passedCount}
 use Rattle.rescue.specs.Claims.{Each, among, inRecord}
 use Rattle.rescue.proofs.Walks.{walk-case}
 
--- PROMISE. Each kept place has a record, and it has its thirty bytes there.
+-- PROMISE. Each kept place has a record.
 pub kept-read : (s : List ℕ) (i : ℕ) → Each (λ k. hasRecord s k ≡ true) (walkFrom s i .kept)
 kept-read s = walk-case (λ (i : ℕ) (w : Walk). Each (λ k. hasRecord s k ≡ true) (w .kept)) s (λ i h. tt) (λ i w e h p. (e, p)) (λ i w e h p. p)
 
+-- with its thirty bytes
 pub kept-within : (s : List ℕ) (i : ℕ) → Each (λ k. k + recordLength ≤ length s) (walkFrom s i .kept)
 kept-within s = walk-case (λ (i : ℕ) (w : Walk). Each (λ k. k + recordLength ≤ length s) (w .kept)) s (λ i h. tt) (λ i w e h p. (h, p)) (λ i w e h p. p)
 

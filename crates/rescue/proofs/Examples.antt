@@ -46,14 +46,14 @@ place-there zero i j h = absurd (omega arith)
 place-there (suc n) i zero h = omega arith
 place-there (suc n) i (suc j) h = place-there n (i + 1) j (omega arith) ∙ omega arith
 
-places-count : (n i : ℕ) → length (placesFrom i n) ≡ n
-places-count zero i = refl
-places-count (suc n) i = ap suc (places-count n (i + 1))
+place-count : (n i : ℕ) → length (placesFrom i n) ≡ n
+place-count zero i = refl
+place-count (suc n) i = ap suc (place-count n (i + 1))
 
 at-places : (f : ℕ → Bool) (i n : ℕ) → T (every f (placesFrom i n)) → (k : ℕ) → i ≤ k → k < i + n → T (f k)
 at-places f i n t k l h =
     let e : i + (k - i) ≡ k = omega arith in
-    subst (λ (x : ℕ). T (f x)) (place-there n i (k - i) (omega arith) ∙ e) (each f (placesFrom i n) t 0 (k - i) (omega (arith, places-count n i)))
+    subst (λ (x : ℕ). T (f x)) (place-there n i (k - i) (omega arith) ∙ e) (each f (placesFrom i n) t 0 (k - i) (omega (arith, place-count n i)))
 
 -- ---- what holds of them
 

@@ -1,5 +1,5 @@
--- The rule, written out: more steps than there are bytes left change nothing, so a walk from a place is a step and the walk from the next place. A hop is
--- the steps from a place to the next record, and the record. Assumes nothing.
+-- The rule, written out: more steps than there are bytes left change nothing, so a walk from a place is a step and the walk from the next place.
+-- Assumes nothing.
 use Prim.Native.Nat.{ℕ, zero, suc, _+_, _-_, _<_, _≤_}
 use mathlib.Core.Path.{_≡_, refl, ap, ap₂, sym, subst, _∙_}
 use mathlib.Core.Bool.{Bool, true, false, cond, true≢false}

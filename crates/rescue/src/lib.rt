@@ -12,9 +12,9 @@ ghost use Rattle.rescue.specs.Inner.{Hop, Chain, rangeTo, Fits};
 pub const MOST_BYTES: usize = 65_536;
 
 // The bytes of an entry in the list of ranges, and of each of its two numbers.
-const ENTRY: usize = 8;
+pub const ENTRY: usize = 8;
 
-const NUMBER: usize = 4;
+pub const NUMBER: usize = 4;
 
 // The numbers of kept records, of passed ranges and of passed bytes.
 pub struct Counts {
@@ -34,14 +34,14 @@ fn next_record(s: &[u8], from: usize) -> usize
     requires { ⌜ from ≤ length (now s) ⌝ }
     ensures { λ r. ⌜ Hop (now (s .entry)) from r ⌝ }
 {
-    let mut at = from;
-    while at < s.len() {
-        if record::reads(&s[at..]) {
-            return at;
+    let mut place = from;
+    while place < s.len() {
+        if record::reads(&s[place..]) {
+            return place;
         }
-        at += 1;
+        place += 1;
     }
-    at
+    place
 }
 
 // The end of the records that follow each other from `from` on.

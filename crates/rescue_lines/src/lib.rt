@@ -1,6 +1,8 @@
 // What the program rescue_records writes: the kept records, and a report of what was passed.
 use record::LENGTH;
 use rescue::Counts;
+use rescue::ENTRY;
+use rescue::NUMBER;
 use rescue::RescueAnswer;
 ghost use mathlib.Core.Path.{_≡_};
 ghost use mathlib.Core.List.{_++_};
@@ -19,11 +21,6 @@ pub const RECORDS: usize = 65_520;
 const LIST: usize = 16_920;
 
 pub const REPORT: usize = 80_470;
-
-// The bytes of an entry in the list of ranges, and of each of its two numbers.
-const ENTRY: usize = 8;
-
-const NUMBER: usize = 4;
 
 // How many bytes are to be written, of the records and of the report.
 pub struct Sizes {

@@ -1,4 +1,4 @@
-// The program: it reads a line from standard input, calls `run_line::answer`, and writes what that puts into the buffer. Its stored input asks for a day of
+// The program run_day: it reads a line from standard input, calls `run_line::answer`, and writes what that puts into the buffer. Its stored input asks for a day of
 // ninety-six quarter-hour records.
 use libc::STDERR_FILENO;
 use libc::STDIN_FILENO;

@@ -1,4 +1,4 @@
-// The program's answer to a line of input: the bytes that it writes.
+// The answer of run_day to a line of input: the bytes that it writes.
 use calendar::DayAnswer;
 use calendar::SECOND_MICROS;
 use line::LineAnswer;

@@ -5,7 +5,6 @@ use mathlib.Core.Path.{_≡_, refl, ap, sym, _∙_}
 use mathlib.Core.List.{List, [], _∷_, _++_, append-assoc}
 use native.Mathlib.Omega.{arith}
 use lib.ListN.{length, drop, set, length-set}
-use lib.Seq.{drop-cons, getD-set-same, drop-set-lt, lt-length-set}
 use Rattle.bigendian.specs.Buffers.{atFront}
 use Rattle.bigendian.proofs.Puts.{stored}
 use Rattle.bigendian.proofs.Buffers.{front-is}

@@ -1,4 +1,4 @@
--- `rescue::next_record` meets its contract. The invariant: no record stands at a place from `from` on and before `at`. Assumes nothing.
+-- `rescue::next_record` meets its contract. The invariant: no record stands at a place from `from` on and before `place`. Assumes nothing.
 use Prim.Native.Nat.{_-_}
 use mathlib.Core.Path.{_≡_, sym, _∙_}
 use native.Mathlib.Omega.{arith}
@@ -11,14 +11,14 @@ use Rattle.rescue.proofs.next_record.Statement.{statement}
 use Rattle.rescue.proofs.next_record.Tie as tie
 
 abbrev Inv-loop : tie.InvT-loop
-Inv-loop s from at₀ at = Looked s from at
+Inv-loop s from place₀ place = Looked s from place
 
 abbrev μ-loop : tie.MeasureT-loop
-μ-loop s from at₀ at = length s - at
+μ-loop s from place₀ place = length s - place
 
 -- what the call of `reads` says of the place
-says : (c : tie.After-reads Inv-loop μ-loop) → let l = c .before .before .before in c .reads .result ≡ hasRecord (now (l .before .before .args .s)) (l .loop .at)
-says c = let l = c .before .before .before in c .reads .ensures ∙ lent-reads (now (l .before .before .args .s)) (l .loop .at)
+says : (c : tie.After-reads Inv-loop μ-loop) → let l = c .before .before .before in c .reads .result ≡ hasRecord (now (l .before .before .args .s)) (l .loop .place)
+says c = let l = c .before .before .before in c .reads .ensures ∙ lent-reads (now (l .before .before .args .s)) (l .loop .place)
 
 loop-holds : tie.Need-loop-holds Inv-loop μ-loop
 loop-holds c = looked-none _ _ (c .before .pre)
@@ -40,8 +40,8 @@ returns c =
     let r : tie.After-reads Inv-loop μ-loop = c .before in
     looked-found (r .before .before .before .loop .inv) (sym (says r) ∙ c .if1 .taken)
 
-add-at : tie.Need-add-at Inv-loop μ-loop
-add-at c = search needs
+add-place : tie.Need-add-place Inv-loop μ-loop
+add-place c = search needs
 
 loop-less : tie.Need-loop-less Inv-loop μ-loop
 loop-less c = search needs
@@ -66,7 +66,7 @@ next-record-spec =
     part-reads-end
     reads-requires
     returns
-    add-at
+    add-place
     loop-less
     loop-again
     returns-2)

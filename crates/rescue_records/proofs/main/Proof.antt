@@ -21,6 +21,9 @@ slice-aggregate-read-full c = search needs
 read-full-requires : tie.Need-read-full-requires
 read-full-requires c κs = search needs
 
+say-unread-requires : tie.Need-say-unread-requires
+say-unread-requires c κs = search needs
+
 array-share-prefix-input : tie.Need-array-share-prefix-input
 array-share-prefix-input c = search needs
 
@@ -66,6 +69,7 @@ main-spec =
     (tie.spec
     slice-aggregate-read-full
     read-full-requires
+    say-unread-requires
     array-share-prefix-input
     slice-aggregate-answer
     answer-requires
