@@ -547,7 +547,9 @@ uint32_t enfys_tt_to_utc_refusal(int64_t day, uint64_t micros);
  * (i) What enfys_rescue does with this input and buffers of these lengths, without
  * the buffers: how many records it keeps, how many ranges it lists, how many bytes it
  * passes (the sum of their lengths), and its refusal. Where that is 0, 30 times the
- * kept records and the passed bytes are input_length.
+ * kept records and the passed bytes are input_length. With SIZE_MAX for both lengths
+ * they say how long the buffers have to be. Each call walks over the input once;
+ * enfys_rescue does so twice.
  */
 uint64_t enfys_rescue_kept(const uint8_t *input, size_t input_length,
                            size_t records_length, size_t ranges_length);
