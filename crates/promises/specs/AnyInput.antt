@@ -2,8 +2,8 @@
 -- the call of one number gives 0, the call of the whole answer leaves every number as it stood, and no lent byte changes; without one the whole answer
 -- leaves the numbers that their own calls give. That each exported call gives these for every input is its contract (crates/enfysgar/src).
 -- The rules are written out here a second time, with their figures and apart from the lists and limits of the definitions (the length of a month, the
--- mark, numbers and sums in bytes, that some row of a table has a fault, a later day, and what a rescue keeps and passes are theirs): first when each refusal is given, then for each
--- service its refusals in their order.
+-- mark, numbers and sums in bytes, that some row of a table has a fault, a later day, and what a rescue keeps and passes are theirs): first when each
+-- refusal is given, then for each service its refusals in their order.
 use Prim.Native.Nat.{ℕ, _+_, _-_, _*_, _/_, _%_}
 use mathlib.Core.Path.{_≡_}
 use mathlib.Core.Bool.{Bool, cond, not, _&&_, _||_}
