@@ -87,14 +87,17 @@ listAfter s n old = refusedOr (λ _. old) (rescueCases s n (length old)) (atFron
 
 -- ---- the numbers of an answer: 0 beside a refusal
 
+-- kept records
 abbrev pub keptOf : RescueAnswer → ℕ
 keptOf (Rescued a) = a .kept
 keptOf (NoRescue n) = 0
 
+-- ranges
 abbrev pub rangesNumberOf : RescueAnswer → ℕ
 rangesNumberOf (Rescued a) = a .ranges
 rangesNumberOf (NoRescue n) = 0
 
+-- passed bytes
 abbrev pub passedOf : RescueAnswer → ℕ
 passedOf (Rescued a) = a .passed
 passedOf (NoRescue n) = 0

@@ -53,6 +53,7 @@ pub record Range : Type 0 where
   pub start : ℕ
   pub size : ℕ
 
+-- n of them from place i on
 abbrev pub range : (start size : ℕ) → Range
 range i n = record { start = i; size = n }
 

@@ -1,4 +1,4 @@
--- The program's own words.
+-- The words of run_day alone.
 use Prim.Native.Nat.{ℕ}
 use mathlib.Core.List.{List}
 use Rattle.text.specs.Text.{ascii}
