@@ -1,6 +1,6 @@
 -- Quotients rounded down, and to nearest.
 -- Assumes nothing.
-use Prim.Native.Nat.{ℕ, _*_, _-_, _/_, _<_}
+use Prim.Native.Nat.{ℕ, suc, _*_, _-_, _/_, _≤_, _<_}
 use native.Mathlib.Nat as N
 use native.Mathlib.Omega.{arith}
 use lib.IntN.{ℤ, pos, negsuc, _+ℤ_, _*ℤ_}
@@ -12,6 +12,10 @@ use Rattle.algebra.proofs.Near.{near-of, near-ℕ}
 -- rounded down, of a natural number
 pub near-floor : (n d : ℕ) → 0 < d → Near (pos (n / d) *ℤ pos d) (pos n) (d - 1)
 near-floor n d h = near-ℕ (omega (arith, N.div-mul-le-self n d)) (omega (arith, N.lt-div-mul-add {a = n} h))
+
+-- the next whole number is above the quotient
+pub floor-next : (n d : ℕ) → 0 < d → n ≤ suc (n / d) * d
+floor-next n d h = omega (arith, N.lt-div-mul-add {a = n} h)
 
 -- rounded down, of either sign
 pub shr-le : (z : ℤ) (d : ℕ) → 0 < d → shrZ z d *ℤ pos d ≼ z

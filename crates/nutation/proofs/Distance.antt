@@ -21,9 +21,10 @@ use Rattle.algebra.proofs.Floor.{near-rounded}
 use Rattle.algebra.proofs.Turns.{Turns, turns-of, turns-right, turns-removed, remainder-less}
 use Rattle.sine.specs.Exact.{sineDen, exactSine, exactCosine}
 use Rattle.sine.specs.Ours.{ourSine, ourCosine}
+use Rattle.sine.specs.Within.{sineDistance}
 use Rattle.sine.proofs.Angles.{sineDen-positive}
 use Rattle.sine.proofs.Sizes.{sine-below, cosine-below}
-use Rattle.sine.proofs.Distance.{sineDistance, SineNear, sine-near, cosine-near}
+use Rattle.sine.proofs.Distance.{SineNear, sine-near, cosine-near}
 use Rattle.instants.specs.Moments.{century, latest, since}
 use Rattle.arguments.specs.Ours.{high}
 use Rattle.arguments.proofs.Floor.{high-near}

@@ -6,6 +6,7 @@ use Rattle.instants.proofs.Moments.{accepted-moment}
 use Rattle.rows.specs.Table.{row, daysWrong, numbersWrong}
 use Rattle.rows.proofs.Places.{row-date}
 use Rattle.row_bytes.specs.Form.{rowIn, rowsIn, tableIn, AcceptedBytes}
+use Rattle.sine.proofs.Distance.{sine-within}
 use Rattle.zonal.proofs.Promises.{accepted-answered}
 use Rattle.zonal.proofs.Worked.{case-accepted, no-constant}
 use Rattle.run.proofs.ReadBack.{run-reads, some-not-refused}
@@ -25,6 +26,8 @@ some-read = refl
 -- PROMISE. Demand 3: distance.
 pub distance : Distance
 distance = record {
+  in-figures = (refl, refl, refl);
+  sine-near = sine-within;
   some-instant = case-accepted;
   corrections-near = accepted-answered;
   corrections-vary = no-constant;

@@ -1,14 +1,15 @@
--- Demand 3: distance. At every accepted instant the corrections are within 20 nanoseconds, 200 picoseconds and 20 * 10^-20 radian per second of the
+-- Demand 3: distance. At every accepted instant the corrections are within 5 nanoseconds, 50 picoseconds and 5 * 10^-20 radian per second of the
 -- exact sums over all 62 rows, in service (e) and in a run, and both offsets within 2 nanoarcseconds of the exact ones, with the built-in rows and
--- with the caller's. A distance is over a denominator that is above 0.
-use Prim.Native.Nat.{ℕ, _*_, _≤_, _<_}
+-- with the caller's. The sine and cosine that they are made of are within 20 units of 2^-31. A distance is over a denominator that is above 0.
+use Prim.Native.Nat.{ℕ, _*_, _^_, _≤_, _<_}
 use mathlib.Core.Path.{_≡_}
 use mathlib.Core.List.{List, [], _∷_}
 use lib.IntN.{ℤ, pos, negℤ}
 use lib.ListN.{length, take, drop}
 use Rattle.instants.specs.Instants.{IsAccepted, laterDay, laterMicros}
 use Rattle.instants.specs.Moments.{sinceJ2000, momentOf, since}
-use Rattle.zonal.specs.Within.{promised, Within, Answered}
+use Rattle.sine.specs.Within.{sineDistance, SineWithin}
+use Rattle.zonal.specs.Within.{distances, promised, Within, Answered}
 use Rattle.zonal.specs.declared.Corrections.{Corrections}
 use Rattle.record.specs.Format.{recordLength}
 use Rattle.run.specs.Run.{runRefusal, runWritten}
@@ -34,9 +35,13 @@ twoRows =
     ∷ 0 ∷ 1 ∷ 89 ∷ 113 ∷ 255 ∷ 254 ∷ 121 ∷ 96 ∷ 0 ∷ 1 ∷ 134 ∷ 160 ∷ 0 ∷ 1 ∷ 134 ∷ 160 ∷ []
 
 pub record Distance : Type 0 where
+  -- the promised distances in figures: of the corrections, of the offsets, and of the sine and cosine
+  pub in-figures : (promised ≡ distances 5 50 5) × (nutation.distance ≡ 2) × (sineDistance ≡ 20)
+  -- the sine and the cosine at every angle, in units of 2^-41 turn, are within their distance of the exact ones
+  pub sine-near : (b : ℕ) → b < 2 ^ 41 → SineWithin b
   -- an accepted instant exists: the instant of RG_ZONT2's own case
   pub some-instant : IsAccepted (pos 54465) 0
-  -- (e) every accepted instant is answered by three numbers within the promised 20 ns, 200 ps and 20 units of the exact sums
+  -- (e) every accepted instant is answered by three numbers within the promised 5 ns, 50 ps and 5 units of the exact sums
   pub corrections-near : (d : ℤ) (m : ℕ) → IsAccepted d m → Answered promised d m
   -- no constant answer, zeros among them, would do: the numbers of two days a day apart differ
   pub corrections-vary : (c c′ : Corrections) → Within promised (sinceJ2000 (pos 54465) 0) c → Within promised (sinceJ2000 (pos 54466) 0) c′

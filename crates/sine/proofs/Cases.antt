@@ -8,7 +8,7 @@ use native.Mathlib.Omega.{arith}
 use lib.Dec.{T, leb, le→leb, leb→le}
 use lib.IntN.{ℤ, pos, negℤ}
 use Rattle.sine.specs.Exact.{halfTurn, wholeTurn}
-use Rattle.sine.specs.Ours.{sineQuarter, quarterTurn, ourSine}
+use Rattle.sine.specs.Ours.{onePart, sineQuarter, quarterTurn, ourSine}
 use Rattle.sine.specs.Inner.{Reduced, first, second, third, fourth}
 
 -- ---- a test that is known
@@ -21,11 +21,11 @@ no-is : (b : Bool) (x y : ℤ) → (T b → ⊥) → cond b x y ≡ y
 no-is true x y f = absurd (f tt)
 no-is false x y f = refl
 
-half-low : (a v : ℕ) → a ≤ 2 ^ 39 → v ≡ sineQuarter (a / 2 ^ 9) → pos v ≡ halfTurn quarterTurn (2 ^ 41) a
+half-low : (a v : ℕ) → a ≤ 2 ^ 39 → v ≡ sineQuarter (a / onePart) → pos v ≡ halfTurn quarterTurn (2 ^ 41) a
 unfolding quarterTurn
 half-low a v h e = ap pos e ∙ sym (yes-is (leb (4 * a) (2 ^ 41)) (quarterTurn a) (quarterTurn (2 ^ 41 / 2 - a)) (le→leb (4 * a) (2 ^ 41) (omega arith)))
 
-half-high : (a v : ℕ) → 2 ^ 39 < a → v ≡ sineQuarter ((2 ^ 40 - a) / 2 ^ 9) → pos v ≡ halfTurn quarterTurn (2 ^ 41) a
+half-high : (a v : ℕ) → 2 ^ 39 < a → v ≡ sineQuarter ((2 ^ 40 - a) / onePart) → pos v ≡ halfTurn quarterTurn (2 ^ 41) a
 unfolding quarterTurn
 half-high a v h e = ap pos e ∙ sym (no-is (leb (4 * a) (2 ^ 41)) (quarterTurn a) (quarterTurn (2 ^ 41 / 2 - a)) (λ t. over (leb→le (4 * a) (2 ^ 41) t)))
   where
@@ -45,10 +45,10 @@ whole-high a h = sym (no-is (leb (2 * a) (2 ^ 41)) (halfTurn quarterTurn (2 ^ 41
 
 -- ---- the sine as the code makes it: the angle a reduced to r, the sine v there, and its sign
 
-module _ (a r v : ℕ) (s : ℤ) (e : v ≡ sineQuarter (r / 2 ^ 9)) (up : a ≤ 2 ^ 40 → s ≡ pos v) (down : 2 ^ 40 < a → s ≡ negℤ (pos v)) where
+module _ (a r v : ℕ) (s : ℤ) (e : v ≡ sineQuarter (r / onePart)) (up : a ≤ 2 ^ 40 → s ≡ pos v) (down : 2 ^ 40 < a → s ≡ negℤ (pos v)) where
   -- v at another name of the reduced angle
-  at : {q : ℕ} → r ≡ q → v ≡ sineQuarter (q / 2 ^ 9)
-  at p = e ∙ ap (λ (n : ℕ). sineQuarter (n / 2 ^ 9)) p
+  at : {q : ℕ} → r ≡ q → v ≡ sineQuarter (q / onePart)
+  at p = e ∙ ap (λ (n : ℕ). sineQuarter (n / onePart)) p
 
   pub sine-by : Reduced a r → s ≡ ourSine a
   sine-by (first h p) = up (omega arith) ∙ half-low a v h (at p) ∙ whole-low a (omega arith)

@@ -1,8 +1,9 @@
 -- THE DISTANCE FACT: our sine and cosine against the exact ones, at any two angles that are near one another, whole turns apart or not.
--- Up to a quarter turn there are two parts: the routine's own error at q of 2^30 parts (13 units of 2^-31, Quarter), and the cut of the angle to
--- those parts, by at most 511 units of 2^-41 turn, which the sine makes at most 16 times as large: 8 units. Both sines are odd, so the same holds
--- on a quarter on either side of zero; every angle is folded to there, and near angles have near folds (Fold). The angles' own distance e adds
--- 16 * e units of 2^-41, which is e / 64 units of 2^-31. The cosine is the sine a quarter turn on.
+-- Up to a quarter turn there are two parts: the routine's own error at q parts of a quarter (12 units of 2^-31, Quarter), and the cut of the angle to
+-- such parts, by at most 511 units of 2^-41 turn, which the sine makes at most 16 times as large: 8 units. That both together are within
+-- `sineDistance` is one computed test. Both sines are odd, so the same holds on a quarter on either side of zero; every angle is folded to there, and
+-- near angles have near folds (Fold). The angles' own distance e adds 16 * e units of 2^-41, which is e / 64 units of 2^-31. The cosine is the sine a
+-- quarter turn on.
 -- Assumes nothing.
 use mathlib.Core.Path.{_≡_, refl, sym, _∙_, ap, subst}
 use Prim.Native.Nat.{ℕ, zero, suc, _+_, _*_, _-_, _/_, _%_, _^_, _≤_, _<_}
@@ -16,15 +17,16 @@ use Rattle.algebra.specs.Near.{Near}
 use Rattle.algebra.proofs.Ring.{end, _▸_, ring, quote}
 use Rattle.algebra.proofs.Order.{abs-mul}
 use Rattle.algebra.proofs.Near.{near-ℕ, near-as, near-wide, near-trans, near-neg, near-scale, near-unscale}
-use Rattle.algebra.proofs.Floor.{near-floor, near-rounded}
+use Rattle.algebra.proofs.Floor.{near-floor, floor-next, near-rounded}
 use Rattle.algebra.proofs.Turns.{Turns, turns-of, turns-wide, turns-add, turns-removed}
 use Rattle.sine.specs.Exact.{S, sineDen, wholeTurn, exactSine, exactCosine}
-use Rattle.sine.specs.Ours.{alternating, sineQuarter, quarterTurn, ourSine, ourCosine}
-use Rattle.sine.proofs.Angles.{signedS, S-odd, S-fine, S-moves, sineDen-fine, slope}
+use Rattle.sine.specs.Ours.{alternating, quarterParts, onePart, sineQuarter, quarterTurn, ourSine, ourCosine}
+use Rattle.sine.specs.Within.{sineDistance, SineWithin}
+use Rattle.sine.proofs.Angles.{signedS, S-odd, S-fine, S-moves, sineDen-fine, sineDen-positive, slope}
 use Rattle.sine.proofs.Fold.{Fold, fold-is, fold-scale, fold-small, fold-near, odd-turn}
-use Rattle.sine.proofs.Quarter.{routineDistance, quarter-near}
+use Rattle.sine.proofs.Quarter.{routineError, quarter-near}
 
--- ---- on a quarter, with the cut to 2^30 parts of it
+-- ---- on a quarter, with the cut to parts of it
 
 alg₂ : (w f : ℤ) → w *ℤ f ≡ f *ℤ w
 alg₂ w f = ring (w ▸ f ▸ end) (search quote depth 13) tt
@@ -71,22 +73,31 @@ cut c Q F k E e r s hc hk kF hE hr h = near-wide (near-trans fine moved) (le-of-
         side : (z : ℤ) → pos k *ℤ (signedS (c * Q) z *ℤ pos F) ≡ pos (c * Q) *ℤ signedS (c * Q) z
         side z = alg₆ (pos k) (signedS (c * Q) z) (pos F) ∙ ap (λ (m : ℕ). pos m *ℤ signedS (c * Q) z) (sym kF)
 
--- units of 2^-31: 13 of the routine, and 8 of the cut
-abbrev pub sineDistance : ℕ
-sineDistance = 21
+-- the error of the cut in units of 2^-31, rounded up; a unit is 2^10 of 2^-41
+abbrev cutError : ℕ
+cutError = suc (slope * (onePart - 1) / 2 ^ 10)
 
-quarter-cut : (r : ℕ) → 4 * r ≤ 2 ^ 41 → Near (pos (sineQuarter (r / 2 ^ 9)) *ℤ pos (sineDen (2 ^ 41))) (signedS (2 ^ 41) (pos r) *ℤ pos (2 ^ 31)) (sineDistance * sineDen (2 ^ 41))
+-- the computed test: both errors together are within the distance that is promised
+sine-room : routineError + cutError ≤ sineDistance
+unfolding routineError
+sine-room = lit≤ tt
+
+quarter-cut : (r : ℕ) → 4 * r ≤ 2 ^ 41 → Near (pos (sineQuarter (r / onePart)) *ℤ pos (sineDen (2 ^ 41))) (signedS (2 ^ 41) (pos r) *ℤ pos (2 ^ 31)) (sineDistance * sineDen (2 ^ 41))
 unfolding S signedS
-quarter-cut r h = cut (2 ^ 9) (2 ^ 32) (2 ^ 31) (2 ^ 10) 8 routineDistance r (pos (sineQuarter (r / 2 ^ 9))) (lit≤ tt) (lit≤ tt) refl (lit≤ tt) h (quarter-near (r / 2 ^ 9) (small r h))
+quarter-cut r h =
+    near-wide
+    (cut onePart (4 * quarterParts) (2 ^ 31) (2 ^ 10) cutError routineError r (pos (sineQuarter (r / onePart))) (lit≤ tt) (lit≤ tt) refl
+    (le-trans (floor-next (slope * (onePart - 1)) (2 ^ 10) (lit≤ tt)) (le-of-eq (N.mul-comm cutError (2 ^ 10)))) h (quarter-near (r / onePart) (small r h)))
+    (N.mul-le-mul-right (sineDen (2 ^ 41)) sine-room)
   where
-    small : (r : ℕ) → 4 * r ≤ 2 ^ 41 → r / 2 ^ 9 ≤ 2 ^ 30
+    small : (r : ℕ) → 4 * r ≤ 2 ^ 41 → r / onePart ≤ quarterParts
     small r h = omega arith
 
 -- ---- on a quarter on either side of zero
 
 sineFold : ℤ → ℤ
-sineFold (pos r) = pos (sineQuarter (r / 2 ^ 9))
-sineFold (negsuc n) = negℤ (pos (sineQuarter (suc n / 2 ^ 9)))
+sineFold (pos r) = pos (sineQuarter (r / onePart))
+sineFold (negsuc n) = negℤ (pos (sineQuarter (suc n / onePart)))
 
 sineFold-odd : (n : ℕ) → sineFold (negℤ (pos n)) ≡ negℤ (sineFold (pos n))
 unfolding sineFold sineQuarter alternating
@@ -97,7 +108,7 @@ sineFold-near : (z : ℤ) → 4 * natAbs z ≤ 2 ^ 41 → Near (sineFold z *ℤ 
 unfolding sineFold
 sineFold-near (pos r) h = quarter-cut r h
 sineFold-near (negsuc n) h =
-    near-as (near-neg (quarter-cut (suc n) h)) (alg (pos (sineQuarter (suc n / 2 ^ 9))) (pos (sineDen (2 ^ 41))))
+    near-as (near-neg (quarter-cut (suc n) h)) (alg (pos (sineQuarter (suc n / onePart))) (pos (sineDen (2 ^ 41))))
     (ap (λ (x : ℤ). x *ℤ pos (2 ^ 31)) (S-odd (2 ^ 41) (pos (suc n))) ∙ alg (signedS (2 ^ 41) (pos (suc n))) (pos (2 ^ 31))) (N.le-refl (sineDistance * sineDen (2 ^ 41)))
   where
     alg : (x y : ℤ) → negℤ x *ℤ y ≡ negℤ (x *ℤ y)
@@ -110,6 +121,22 @@ our-fold b = odd-turn sineFold sineFold-odd (2 ^ 41) b
 exact-fold : (Q A : ℕ) → exactSine Q A ≡ signedS Q (wholeTurn pos Q A)
 unfolding exactSine S signedS
 exact-fold Q A = odd-turn (signedS Q) (λ n. S-odd Q (pos n)) Q A
+
+-- ---- the promise, at one angle
+
+own-near : (b : ℕ) → b < 2 ^ 41 → Near (ourSine b *ℤ pos (sineDen (2 ^ 41))) (exactSine (2 ^ 41) b *ℤ pos (2 ^ 31)) (sineDistance * sineDen (2 ^ 41))
+own-near b h =
+    near-as (sineFold-near (wholeTurn pos (2 ^ 41) b) (N.mul-le-mul-left 4 (fold-small (fold-is (2 ^ 39) b (omega arith)))))
+    (ap (λ (z : ℤ). z *ℤ pos (sineDen (2 ^ 41))) (our-fold b)) (ap (λ (z : ℤ). z *ℤ pos (2 ^ 31)) (exact-fold (2 ^ 41) b)) (N.le-refl (sineDistance * sineDen (2 ^ 41)))
+
+-- PROMISE. At every angle, whole turns removed, our sine and our cosine are within the promised distance of the exact ones.
+pub sine-within : (b : ℕ) → b < 2 ^ 41 → SineWithin b
+unfolding ourCosine exactCosine
+sine-within b h = record {
+  positive = sineDen-positive (2 ^ 41) (lit≤ tt);
+  sine = own-near b h;
+  cosine = own-near ((b + 2 ^ 39) % 2 ^ 41) (N.mod-lt (b + 2 ^ 39) (lit≤ tt));
+}
 
 -- ---- at two angles: y of B parts of a turn and x of Q parts, on a quarter on either side of zero
 

@@ -1,6 +1,6 @@
--- Our sine at q of 2^30 parts of a quarter, against the exact series there: within 13 units of 2^-31. The series is q / 2^30 times the exact
--- alternating sum in the square of q / 2^30, whose constants are (pi/2)^(2k+1) / (2k+1)!. Ours is off by the error of its alternating sum
--- (Alternating), which is computed from the constants, and by one unit for the last product, rounded down.
+-- Our sine at q parts of a quarter, 2^30 in all, against the exact series there. The series is q / 2^30 times the exact alternating sum in the square
+-- of q / 2^30, whose constants are (pi/2)^(2k+1) / (2k+1)!. Ours is off by the error of its alternating sum (Alternating), which is computed from the
+-- constants, and by one unit for the last product, rounded down.
 -- Assumes nothing.
 use mathlib.Core.Path.{_≡_, refl, sym, _∙_, ap, ap₂}
 use mathlib.Core.List.{List, [], _∷_}
@@ -16,11 +16,11 @@ use Rattle.algebra.proofs.Integers.{pow-pos}
 use Rattle.algebra.proofs.Polynomial.{Expr, var, _⊖_, _⊗_, _↑_, #, solve}
 use Rattle.algebra.proofs.Ring.{end, _▸_, _▹_, ring, quote, ringN, quoteN}
 use Rattle.algebra.proofs.Near.{near-as, near-trans, near-scale}
-use Rattle.algebra.proofs.Floor.{near-floor}
+use Rattle.algebra.proofs.Floor.{near-floor, floor-next}
 use Rattle.sine.proofs.Series.{seriesE}
 use Rattle.sine.specs.Exact.{turnNum, S, sineDen}
-use Rattle.sine.specs.Ours.{firstConstant, otherConstants, alternating, sineQuarter}
-use Rattle.sine.proofs.Alternating.{exactAlternating, power, error, constantsTest, alternating-near}
+use Rattle.sine.specs.Ours.{firstConstant, otherConstants, alternating, quarterParts, unitSquares, sineQuarter}
+use Rattle.sine.proofs.Alternating.{exactAlternating, power, falling, error, alternating-near}
 
 -- (t / v)^(2k+1) / (2k+1)! times v^23 * 23!, a whole number: with t / v = pi/2 the constants, exactly
 abbrev pub part : ℕ → ℕ → ℕ → ℕ
@@ -108,11 +108,11 @@ last-product F r K e q p n hr hq h =
 
 -- F times s is r²: a square of r is F of s parts
 series-near : (F r s t u c : ℕ) (ds : List ℕ) → 0 < F → 0 < r → 0 < s → 0 < hundredth u → r * r ≡ F * s
-    → T (constantsTest F (hundredth u) c ds (part t (100 * u) 0) (parts t (100 * u))) → (q : ℕ) → q ≤ r
-    → (e : ℕ) → 100 + error F (hundredth u) ds (part t (100 * u) 0) (parts t (100 * u)) ≤ e * 100
+    → T (falling c ds (parts t (100 * u))) → (q : ℕ) → q ≤ r
+    → (e : ℕ) → 100 + error F (hundredth u) c ds (part t (100 * u) 0) (parts t (100 * u)) ≤ e * 100
     → Near (pos (q * alternating F (q * q / s) c ds / r) *ℤ pos ((r * (100 * u)) ^ 23 * factorial 23)) (series (pos (q * t)) (pos (r * (100 * u))) *ℤ pos F) (e * ((r * (100 * u)) ^ 23 * factorial 23))
 series-near F r s t u c ds hF hr hs hm rs test q hq e he =
-    near-as (last-product F r (hundredth u * W) (error F (hundredth u) ds (part t (100 * u) 0) (parts t (100 * u))) q (alternating F z c ds) (exactAlternating (r * r) (q * q) (part t (100 * u) 0) (parts t (100 * u))) hr hq near-alternating)
+    near-as (last-product F r (hundredth u * W) (error F (hundredth u) c ds (part t (100 * u) 0) (parts t (100 * u))) q (alternating F z c ds) (exactAlternating (r * r) (q * q) (part t (100 * u) 0) (parts t (100 * u))) hr hq near-alternating)
     (ap (λ (k : ℕ). pos (q * alternating F z c ds / r) *ℤ pos k) (den-is r t u)) (ap (λ (x : ℤ). x *ℤ pos F) (series-is q r t (100 * u)))
     (le-trans (N.mul-le-mul-right (r * (hundredth u * W)) he) (le-of-eq (alg e r (hundredth u * W) ∙ ap (λ (k : ℕ). e * k) (sym (den-is r t u)))))
   where
@@ -142,15 +142,22 @@ series-near F r s t u c ds hF hr hs hm rs test q hq e he =
     W = power (r * r) (parts t (100 * u))
 
     near-alternating : Near (pos (alternating F z c ds) *ℤ pos (100 * (hundredth u * W))) (exactAlternating (r * r) (q * q) (part t (100 * u) 0) (parts t (100 * u)) *ℤ pos F)
-        (error F (hundredth u) ds (part t (100 * u) 0) (parts t (100 * u)) * (hundredth u * W))
+        (error F (hundredth u) c ds (part t (100 * u) 0) (parts t (100 * u)) * (hundredth u * W))
     near-alternating = alternating-near F (r * r) (q * q) z (hundredth u) hF hm squares z-small z-near c ds (part t (100 * u) 0) (parts t (100 * u)) test .close
 
 -- ---- at ours
 
--- units of 2^-31
-abbrev pub routineDistance : ℕ
-routineDistance = 13
+-- a quarter turn in radians is turnNum / (100 * quarterDen)
+abbrev quarterDen : ℕ
+quarterDen = 4 * 10 ^ 22
 
-pub quarter-near : (q : ℕ) → q ≤ 2 ^ 30 → Near (pos (sineQuarter q) *ℤ pos (sineDen (2 ^ 32))) (S (2 ^ 32) q *ℤ pos (2 ^ 31)) (routineDistance * sineDen (2 ^ 32))
-unfolding S sineDen sineQuarter
-quarter-near q h = series-near (2 ^ 31) (2 ^ 30) (2 ^ 29) turnNum (4 * 10 ^ 22) firstConstant otherConstants (lit≤ tt) (lit≤ tt) (lit≤ tt) (lit≤ tt) refl tt q h routineDistance (lit≤ tt)
+-- the error in units of 2^-31, rounded up, worked out from the constants
+unfoldable pub routineError : ℕ
+routineError = suc ((100 + error (2 ^ 31) (hundredth quarterDen) firstConstant otherConstants (part turnNum (100 * quarterDen) 0) (parts turnNum (100 * quarterDen))) / 100)
+
+pub quarter-near : (q : ℕ) → q ≤ quarterParts
+    → Near (pos (sineQuarter q) *ℤ pos (sineDen (4 * quarterParts))) (S (4 * quarterParts) q *ℤ pos (2 ^ 31)) (routineError * sineDen (4 * quarterParts))
+unfolding S sineDen sineQuarter routineError
+quarter-near q h =
+    series-near (2 ^ 31) quarterParts unitSquares turnNum quarterDen firstConstant otherConstants (lit≤ tt) (lit≤ tt) (lit≤ tt) (lit≤ tt) refl tt q h routineError
+    (floor-next (100 + error (2 ^ 31) (hundredth quarterDen) firstConstant otherConstants (part turnNum (100 * quarterDen) 0) (parts turnNum (100 * quarterDen))) 100 (lit≤ tt))

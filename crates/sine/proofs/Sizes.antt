@@ -10,7 +10,7 @@ use lib.IntN.{natAbs}
 use Rattle.algebra.proofs.Tests.{by-test, cond-case}
 use Rattle.algebra.proofs.Order.{abs-neg}
 use Rattle.sine.specs.Exact.{halfTurn, wholeTurn}
-use Rattle.sine.specs.Ours.{firstConstant, otherConstants, alternating, sineQuarter, quarterTurn, ourSine, ourCosine}
+use Rattle.sine.specs.Ours.{firstConstant, otherConstants, alternating, quarterParts, onePart, unitSquares, sineQuarter, quarterTurn, ourSine, ourCosine}
 
 alternating-small : (F z c : ℕ) (ds : List ℕ) → alternating F z c ds ≤ c
 unfolding alternating
@@ -21,9 +21,9 @@ alternating-small F z c (d ∷ ds) = N.sub-le c (z * alternating F z d ds / F)
 abbrev pub sineMost : ℕ
 sineMost = 3040000000
 
--- nine tenths of 2^30 parts
+-- nine tenths of the parts of a quarter turn
 abbrev nineTenths : ℕ
-nineTenths = 966367641
+nineTenths = 9 * quarterParts / 10
 
 second-low : (z p : ℕ) → z ≤ 2 ^ 31 → p ≤ 171138612 → 1216058725 ≤ 1387197337 - z * p / 2 ^ 31
 second-low z p h k = omega (arith, N.mul-le-mul h k)
@@ -31,29 +31,29 @@ second-low z p h k = omega (arith, N.mul-le-mul h k)
 first-high : (z p : ℕ) → 1739461750 ≤ z → 1216058725 ≤ p → firstConstant - z * p / 2 ^ 31 ≤ 2400000000
 first-high z p h k = omega (arith, N.mul-le-mul h k)
 
-sineQuarter-most : (q : ℕ) → q ≤ 2 ^ 30 → sineQuarter q ≤ sineMost
+sineQuarter-most : (q : ℕ) → q ≤ quarterParts → sineQuarter q ≤ sineMost
 unfolding sineQuarter alternating
 sineQuarter-most q h = by-test (leb q nineTenths) (λ s. low (leb→le q nineTenths s)) (λ s. high (nleb→lt q nineTenths s))
   where
     z : ℕ
-    z = q * q / 2 ^ 29
+    z = q * q / unitSquares
 
-    low : q ≤ nineTenths → q * alternating (2 ^ 31) z firstConstant otherConstants / 2 ^ 30 ≤ sineMost
+    low : q ≤ nineTenths → q * alternating (2 ^ 31) z firstConstant otherConstants / quarterParts ≤ sineMost
     low k = bound (N.mul-le-mul k (alternating-small (2 ^ 31) z firstConstant otherConstants))
       where
-        bound : {n : ℕ} → n ≤ nineTenths * firstConstant → n / 2 ^ 30 ≤ sineMost
+        bound : {n : ℕ} → n ≤ nineTenths * firstConstant → n / quarterParts ≤ sineMost
         bound k = omega arith
 
-    high : nineTenths < q → q * alternating (2 ^ 31) z firstConstant otherConstants / 2 ^ 30 ≤ sineMost
+    high : nineTenths < q → q * alternating (2 ^ 31) z firstConstant otherConstants / quarterParts ≤ sineMost
     high k = bound (N.mul-le-mul h (first-high z _ (large (N.mul-le-mul k k)) (second-low z _ (small (N.mul-le-mul h h)) (alternating-small (2 ^ 31) z 171138612 (10053990 ∷ 344545 ∷ 7728 ∷ 122 ∷ 1 ∷ [])))))
       where
-        bound : {n : ℕ} → n ≤ 2 ^ 30 * 2400000000 → n / 2 ^ 30 ≤ sineMost
+        bound : {n : ℕ} → n ≤ quarterParts * 2400000000 → n / quarterParts ≤ sineMost
         bound k = omega arith
 
-        large : {n : ℕ} → suc nineTenths * suc nineTenths ≤ n → 1739461750 ≤ n / 2 ^ 29
+        large : {n : ℕ} → suc nineTenths * suc nineTenths ≤ n → 1739461750 ≤ n / unitSquares
         large k = omega arith
 
-        small : {n : ℕ} → n ≤ 2 ^ 30 * 2 ^ 30 → n / 2 ^ 29 ≤ 2 ^ 31
+        small : {n : ℕ} → n ≤ quarterParts * quarterParts → n / unitSquares ≤ 2 ^ 31
         small k = omega arith
 
 pub sine-most : (b : ℕ) → natAbs (ourSine b) ≤ sineMost
@@ -61,8 +61,8 @@ unfolding ourSine wholeTurn quarterTurn
 sine-most b =
     cond-case (leb (2 * b) (2 ^ 41)) (λ z. natAbs z ≤ sineMost) (λ s. half b) (λ s. N.le-trans (N.le-of-eq (abs-neg (halfTurn quarterTurn (2 ^ 41) (b - 2 ^ 41 / 2)))) (half (b - 2 ^ 41 / 2)))
   where
-    small : (r : ℕ) → r ≤ 2 ^ 39 → sineQuarter (r / 2 ^ 9) ≤ sineMost
-    small r h = sineQuarter-most (r / 2 ^ 9) (omega arith)
+    small : (r : ℕ) → r ≤ 2 ^ 39 → sineQuarter (r / onePart) ≤ sineMost
+    small r h = sineQuarter-most (r / onePart) (omega arith)
 
     half : (a : ℕ) → natAbs (halfTurn quarterTurn (2 ^ 41) a) ≤ sineMost
     half a =

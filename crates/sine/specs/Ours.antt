@@ -16,13 +16,25 @@ unfoldable pub alternating : ℕ → ℕ → ℕ → List ℕ → ℕ
 alternating F z c [] = c
 alternating F z c (d ∷ ds) = c - z * alternating F z d ds / F
 
--- the sine of q of 2^30 parts of a quarter turn; q*q / 2^29 is the square of q / 2^30 in units of 2^-31
-unfoldable pub sineQuarter : ℕ → ℕ
-sineQuarter q = q * alternating (2 ^ 31) (q * q / 2 ^ 29) firstConstant otherConstants / 2 ^ 30
+-- the parts of a quarter turn that an angle is cut to
+abbrev pub quarterParts : ℕ
+quarterParts = 2 ^ 30
 
--- the sine of r of 2^41 parts of a turn, up to a quarter, cut to 2^30 parts of a quarter
+-- one of them, in units of 2^-41 turn
+abbrev pub onePart : ℕ
+onePart = 2 ^ 9
+
+-- how many squares of such a part are a unit of 2^-31
+abbrev pub unitSquares : ℕ
+unitSquares = 2 ^ 29
+
+-- the sine of q parts of a quarter turn; q*q / unitSquares is the square of q / quarterParts in units of 2^-31
+unfoldable pub sineQuarter : ℕ → ℕ
+sineQuarter q = q * alternating (2 ^ 31) (q * q / unitSquares) firstConstant otherConstants / quarterParts
+
+-- the sine of r of 2^41 parts of a turn, up to a quarter, cut to these parts
 unfoldable pub quarterTurn : ℕ → ℤ
-quarterTurn r = pos (sineQuarter (r / 2 ^ 9))
+quarterTurn r = pos (sineQuarter (r / onePart))
 
 -- by the cases of the exact sine
 unfoldable pub ourSine : ℕ → ℤ

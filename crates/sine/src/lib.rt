@@ -3,7 +3,7 @@
 ghost use mathlib.Core.Path.{_≡_};
 ghost use Prim.Native.Nat.{_-_, _*_, _/_, _%_, _^_, _≤_, _<_};
 ghost use lib.IntN.{pos, negℤ};
-ghost use Rattle.sine.specs.Ours.{sineQuarter, ourSine, ourCosine};
+ghost use Rattle.sine.specs.Ours.{quarterParts, unitSquares, sineQuarter, ourSine, ourCosine};
 ghost use Rattle.sine.specs.Inner.{Reduced};
 
 // A turn, in units of 2^-41 turn.
@@ -29,8 +29,8 @@ const ONE: u64 = 1 << 31;
 
 // The square of q / 2^30, in units of 2^-31.
 fn square(q: u64) -> u64
-    requires { ⌜ q ≤ 2 ^ 30 ⌝ }
-    ensures value { λ r. ⌜ r ≡ q * q / 2 ^ 29 ⌝ }
+    requires { ⌜ q ≤ quarterParts ⌝ }
+    ensures value { λ r. ⌜ r ≡ q * q / unitSquares ⌝ }
     ensures most { λ r. ⌜ r ≤ 2 ^ 31 ⌝ }
 {
     q * q / SQUARES
@@ -49,17 +49,17 @@ fn step(c: u64, z: u64, p: u64) -> u64
 
 // q / 2^30 times p.
 fn scaled(q: u64, p: u64) -> u64
-    requires parts { ⌜ q ≤ 2 ^ 30 ⌝ }
+    requires parts { ⌜ q ≤ quarterParts ⌝ }
     requires factor { ⌜ p < 2 ^ 32 ⌝ }
-    ensures value { λ r. ⌜ r ≡ q * p / 2 ^ 30 ⌝ }
+    ensures value { λ r. ⌜ r ≡ q * p / quarterParts ⌝ }
     ensures most { λ r. ⌜ r ≤ p ⌝ }
 {
     q * p / PARTS
 }
 
-// The sine of q of 2^30 parts of a quarter turn.
+// The sine of q of these parts of a quarter turn.
 fn sine_quarter(q: u64) -> u64
-    requires { ⌜ q ≤ 2 ^ 30 ⌝ }
+    requires { ⌜ q ≤ quarterParts ⌝ }
     ensures value { λ r. ⌜ r ≡ sineQuarter q ⌝ }
     ensures below { λ r. ⌜ r < 2 ^ 32 ⌝ }
 {

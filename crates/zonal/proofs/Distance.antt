@@ -1,42 +1,49 @@
 -- The distance of our three numbers from the exact sums, on every day from 1600 to 2400. A row's sine is off by `sineDistance`, and by what the
 -- angle's `rowAngleDistance` makes of it; a sum by that times the weights of its two columns (Weighted); the number by its factor times the sum's
--- distance and half a unit for the rounding. That this is within `proved` is one computed test for each number.
+-- distance and half a unit for the rounding. `proved` is worked out so, from these two named distances and the table.
 -- Assumes nothing.
-use mathlib.Core.Path.{_≡_}
-use Prim.Native.Nat.{ℕ, _+_, _*_, _^_, _≤_, _<_}
+use mathlib.Core.Path.{_≡_, refl}
+use Prim.Native.Nat.{ℕ, suc, _+_, _*_, _/_, _^_, _≤_, _<_}
 use native.Mathlib.Nat as N
 use lib.Dec.{lit≤}
 use lib.IntN.{ℤ, pos, _-ℤ_, _*ℤ_}
 use Rattle.instants.specs.Limits.{dayMicros, daysCovered, indexOffset}
 use Rattle.algebra.specs.Near.{Near}
 use Rattle.algebra.proofs.Near.{near-wide}
+use Rattle.algebra.proofs.Floor.{floor-next}
 use Rattle.instants.specs.Moments.{sinceJ2000, century, moment}
 use Rattle.arguments.specs.Exact.{turnParts, exactRowAngle}
 use Rattle.arguments.specs.Ours.{ourRowAngle}
 use Rattle.arguments.proofs.Distance.{rowAngleDistance, row-angle-near, our-angle-less, exact-angle-less}
 use Rattle.sine.proofs.Angles.{sineDen-positive}
-use Rattle.sine.proofs.Distance.{SineNear, sineDistance, sine-near, cosine-near, rounded-near}
+use Rattle.sine.specs.Within.{sineDistance}
+use Rattle.sine.proofs.Distance.{SineNear, sine-near, cosine-near, rounded-near}
 use Rattle.zonal.specs.declared.Corrections.{Corrections}
 use Rattle.zonal.specs.Exact.{rowCount, coefficient, denominator, exactRowSine, exactRowCosine}
 use Rattle.zonal.specs.Ours.{rowSine, rowCosine, rounded, correctionsAt}
 use Rattle.zonal.specs.Within.{Distances, distances, Within}
 use Rattle.zonal.proofs.Weighted.{weighted, columnWeight, sum-near, ut1-is, lod-is, rate-is}
 
--- the distances of our numbers
-abbrev pub proved : Distances
-proved = distances 3 18 2
-
 -- 64 times the distance of a row's sine or cosine, in units of 2^-31
 abbrev pub rowDistance : ℕ
 rowDistance = 64 * sineDistance + rowAngleDistance
 
--- the distance of a sum over the column j and the next, times f, leaves half a unit to e, in units of 2^-37
-abbrev pub Room : (f j e : ℕ) → Type 0
-Room f j e = f * (columnWeight j rowCount * rowDistance) + 64 * 2 ^ 30 ≤ e * (64 * 2 ^ 31)
+-- f times the distance of a sum over the column j and the next, and half a unit, in units of 2^-37
+abbrev pub sumDistance : (f j : ℕ) → ℕ
+sumDistance f j = f * (columnWeight j rowCount * rowDistance) + 64 * 2 ^ 30
 
--- the computed test
-room : Room 10 0 (proved .ut1) × Room 1000 2 (proved .lod) × Room 100 4 (proved .rate)
-room = (lit≤ tt, lit≤ tt, lit≤ tt)
+-- the same in whole units, rounded up
+abbrev pub numberDistance : (f j : ℕ) → ℕ
+numberDistance f j = suc (sumDistance f j / (64 * 2 ^ 31))
+
+-- the distances of our numbers
+unfoldable pub proved : Distances
+proved = distances (numberDistance 10 0) (numberDistance 1000 2) (numberDistance 100 4)
+
+-- in figures
+pub proved-is : proved ≡ distances 3 17 2
+unfolding proved
+proved-is = refl
 
 -- a quarter of turnParts
 quarter : ℕ
@@ -59,22 +66,23 @@ module _ (d : ℤ) (i m : ℕ) (hd : d ≡ pos i -ℤ pos indexOffset) (hi : i <
   row-cosine r h = cosine-near quarter (exactRowAngle r n) (ourRowAngle r x) rowAngleDistance (lit≤ tt) (exact-angle-less r n) (our-angle-less r x) (row-angle-near d i m r hd hi hm h)
 
   -- one number
-  number-near : (f j e : ℕ) (p q y z : ℕ → ℤ) → Room f j e
+  number-near : (f j : ℕ) (p q y z : ℕ → ℤ)
       → ((r : ℕ) → r < rowCount → SineNear (p r) (y r) denominator rowAngleDistance) → ((r : ℕ) → r < rowCount → SineNear (q r) (z r) denominator rowAngleDistance)
-      → Near (rounded (pos f) (weighted p q j rowCount) *ℤ pos denominator) (pos f *ℤ weighted y z j rowCount) (e * denominator)
+      → Near (rounded (pos f) (weighted p q j rowCount) *ℤ pos denominator) (pos f *ℤ weighted y z j rowCount) (numberDistance f j * denominator)
   unfolding weighted
-  number-near f j e p q y z t hp hq =
-      rounded-near f denominator (columnWeight j rowCount * rowDistance) e (weighted p q j rowCount) (weighted y z j rowCount) t
+  number-near f j p q y z hp hq =
+      rounded-near f denominator (columnWeight j rowCount * rowDistance) (numberDistance f j) (weighted p q j rowCount) (weighted y z j rowCount)
+      (floor-next (sumDistance f j) (64 * 2 ^ 31) (lit≤ tt))
       (sum-near (λ r. coefficient r j) (λ r. coefficient r (j + 1)) denominator rowAngleDistance p q y z rowCount (λ r h. (hp r h, hq r h)))
 
   -- On the day of index i and day number d, at the microsecond m, the three numbers are within these distances of the exact sums.
   pub corrections-near : Within proved n (correctionsAt i m)
-  unfolding correctionsAt
+  unfolding correctionsAt proved
   corrections-near = record {
     positive = sineDen-positive turnParts (lit≤ tt);
-    ut1 = rw (ut1-is (rowSine x) (rowCosine x), ut1-is (exactRowSine n) (exactRowCosine n)) (number-near 10 0 (proved .ut1) (rowSine x) (rowCosine x) (exactRowSine n) (exactRowCosine n) (room .0) row-sine row-cosine);
-    lod = rw (lod-is (rowSine x) (rowCosine x), lod-is (exactRowSine n) (exactRowCosine n)) (number-near 1000 2 (proved .lod) (rowCosine x) (rowSine x) (exactRowCosine n) (exactRowSine n) (room .1) row-cosine row-sine);
-    rate = rw (rate-is (rowSine x) (rowCosine x), rate-is (exactRowSine n) (exactRowCosine n)) (number-near 100 4 (proved .rate) (rowCosine x) (rowSine x) (exactRowCosine n) (exactRowSine n) (room .2) row-cosine row-sine);
+    ut1 = rw (ut1-is (rowSine x) (rowCosine x), ut1-is (exactRowSine n) (exactRowCosine n)) (number-near 10 0 (rowSine x) (rowCosine x) (exactRowSine n) (exactRowCosine n) row-sine row-cosine);
+    lod = rw (lod-is (rowSine x) (rowCosine x), lod-is (exactRowSine n) (exactRowCosine n)) (number-near 1000 2 (rowCosine x) (rowSine x) (exactRowCosine n) (exactRowSine n) row-cosine row-sine);
+    rate = rw (rate-is (rowSine x) (rowCosine x), rate-is (exactRowSine n) (exactRowCosine n)) (number-near 100 4 (rowCosine x) (rowSine x) (exactRowCosine n) (exactRowSine n) row-cosine row-sine);
   }
 
 -- a wider distance

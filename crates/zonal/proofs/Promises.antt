@@ -1,7 +1,7 @@
 -- What is promised of every answer: its distance from the exact sums.
 -- Assumes nothing.
 use mathlib.Core.Path.{_≡_, sym}
-use Prim.Native.Nat.{ℕ}
+use Prim.Native.Nat.{ℕ, _≤_}
 use native.Mathlib.Omega.{arith}
 use lib.Dec.{lit≤}
 use lib.IntN.{ℤ}
@@ -21,18 +21,23 @@ pub accepted-given : (d : ℤ) (m : ℕ) → IsAccepted d m → zonalOf d m ≡ 
 unfolding zonalOf
 accepted-given d m a = sym (answered-too NoZonal _ d m a)
 
--- and they are within the distances that are proved
-pub accepted-near : (d : ℤ) (m : ℕ) → IsAccepted d m → Within proved (sinceJ2000 d m) (correctionsAt (dayIndex d) m)
+-- the computed test: the distances that are proved are within those that are promised
+promise-room : (proved .ut1 ≤ promised .ut1) × (proved .lod ≤ promised .lod) × (proved .rate ≤ promised .rate)
+unfolding proved
+promise-room = (lit≤ tt, lit≤ tt, lit≤ tt)
+
+-- and they are within the promised distances
+pub accepted-near : (d : ℤ) (m : ℕ) → IsAccepted d m → Within promised (sinceJ2000 d m) (correctionsAt (dayIndex d) m)
 accepted-near d m a =
     let h : AcceptedAt d m (dayIndex d) = accepted-at d m (dayIndex d) a in
-    corrections-near d (dayIndex d) m (h .is) (omega (arith, h .high)) (h .less)
+    within-wide (promise-room .0) (promise-room .1) (promise-room .2) (corrections-near d (dayIndex d) m (h .is) (omega (arith, h .high)) (h .less))
 
 -- PROMISE. Every accepted instant is answered, and each of its three numbers is within its promised distance of the exact sum.
 pub accepted-answered : (d : ℤ) (m : ℕ) → IsAccepted d m → Answered promised d m
 accepted-answered d m a = record {
   numbers = correctionsAt (dayIndex d) m;
   given = accepted-given d m a;
-  within = within-wide (lit≤ tt) (lit≤ tt) (lit≤ tt) (accepted-near d m a);
+  within = accepted-near d m a;
 }
 
 -- only an accepted instant is answered

@@ -11,7 +11,8 @@ use Rattle.algebra.specs.Integers.{sumℤ, sumℕ}
 use Rattle.algebra.specs.Near.{Near}
 use Rattle.algebra.proofs.Ring.{end, _▸_, ring, quote}
 use Rattle.algebra.proofs.Near.{near-as, near-scale, near-add, near-refl, abs-sum, abs-prod}
-use Rattle.sine.proofs.Distance.{SineNear, sineDistance}
+use Rattle.sine.specs.Within.{sineDistance}
+use Rattle.sine.proofs.Distance.{SineNear}
 use Rattle.zonal.specs.Exact.{rowCount, coefficient, ut1Sum, lodSum, rateSum}
 use Rattle.zonal.specs.Inner.{term}
 

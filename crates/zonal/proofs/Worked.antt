@@ -20,7 +20,6 @@ use Rattle.zonal.specs.declared.Corrections.{Corrections}
 use Rattle.zonal.specs.Exact.{ut1Sum, lodSum, rateSum, denominator, exactUt1, exactLod, exactRate}
 use Rattle.zonal.specs.Ours.{corrections, correctionsAt}
 use Rattle.zonal.specs.Within.{promised, Within}
-use Rattle.zonal.proofs.Distance.{proved}
 use Rattle.zonal.proofs.Promises.{accepted-near}
 
 -- ---- the test case
@@ -60,17 +59,17 @@ our-next = refl
 
 -- numbers within the promised distances are near ours, since both are near the exact sums
 pub record NearOurs (c : Corrections) (a b r : ℤ) : Type 0 where
-  pub ut1 : Near (c .ut1) a (promised .ut1 + proved .ut1)
-  pub lod : Near (c .lod) b (promised .lod + proved .lod)
-  pub rate : Near (c .rate) r (promised .rate + proved .rate)
+  pub ut1 : Near (c .ut1) a (promised .ut1 + promised .ut1)
+  pub lod : Near (c .lod) b (promised .lod + promised .lod)
+  pub rate : Near (c .rate) r (promised .rate + promised .rate)
 
 near-ours : (d : ℤ) (m : ℕ) (c : Corrections) (a b r : ℤ) → IsAccepted d m → correctionsAt (dayIndex d) m ≡ corrections a b r → Within promised (sinceJ2000 d m) c → NearOurs c a b r
 near-ours d m c a b r h e w =
-    let o : Within proved (sinceJ2000 d m) (corrections a b r) = subst (λ (s : Corrections). Within proved (sinceJ2000 d m) s) e (accepted-near d m h) in
+    let o : Within promised (sinceJ2000 d m) (corrections a b r) = subst (λ (s : Corrections). Within promised (sinceJ2000 d m) s) e (accepted-near d m h) in
     record {
-      ut1 = near-one-fraction (promised .ut1) (proved .ut1) (w .positive) (w .ut1) (o .ut1);
-      lod = near-one-fraction (promised .lod) (proved .lod) (w .positive) (w .lod) (o .lod);
-      rate = near-one-fraction (promised .rate) (proved .rate) (w .positive) (w .rate) (o .rate);
+      ut1 = near-one-fraction (promised .ut1) (promised .ut1) (w .positive) (w .ut1) (o .ut1);
+      lod = near-one-fraction (promised .lod) (promised .lod) (w .positive) (w .lod) (o .lod);
+      rate = near-one-fraction (promised .rate) (promised .rate) (w .positive) (w .rate) (o .rate);
     }
 
 case-near : (c : Corrections) → Within promised (sinceJ2000 (+ 54465) 0) c → NearOurs c (+ 79832877) (+ 50353031) (− 4249712)

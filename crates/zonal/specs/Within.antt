@@ -22,7 +22,7 @@ distances a b c = record { ut1 = a; lod = b; rate = c }
 
 -- the distances that are promised
 abbrev pub promised : Distances
-promised = distances 20 200 20
+promised = distances 5 50 5
 
 -- The numbers c are within the distances e of the exact sums at n microseconds since J2000.0.
 pub record Within (e : Distances) (n : ℤ) (c : Corrections) : Type 0 where
