@@ -92,8 +92,8 @@ extern "C" {
  */
 #define ENFYS_VERSION_MAJOR 2
 #define ENFYS_VERSION_MINOR 3
-#define ENFYS_VERSION_PATCH 0
-#define ENFYS_VERSION_STRING "2.3.0"
+#define ENFYS_VERSION_PATCH 1
+#define ENFYS_VERSION_STRING "2.3.1"
 
 /*
  * Refusal numbers. 0 is success. Where several apply, the first in the order
@@ -244,9 +244,9 @@ uint32_t enfys_tide(uint64_t year, uint64_t month, uint64_t day_of_month,
 /*
  * (e) Zonal-tide corrections at an instant, whole numbers:
  *
- *   ut1   effect on UT1, in nanoseconds, within 20 of the exact sum
- *   lod   effect on the length of day, in picoseconds, within 200
- *   rate  effect on the rotation rate, in 10^-20 radian per second, within 20
+ *   ut1   effect on UT1, in nanoseconds, within 5 of the exact sum
+ *   lod   effect on the length of day, in picoseconds, within 50
+ *   rate  effect on the rotation rate, in 10^-20 radian per second, within 5
  *
  * The exact sums are those of RULES.md, which is installed with this header.
  * Refused: 8, 9, in this order.

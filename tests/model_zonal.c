@@ -79,6 +79,26 @@ static const struct {
     {{0, 0, 0, 0, 1}, {-1617.2681, 0, -14.9471, 0, 12.6153, 0}},
 };
 
+#define QUARTER 1.57079632679489661923 /* of a turn */
+
+/* Planted: the sine s by a series whose first constant is 150 units of 2^-31 too large. */
+static inline double constant_off(double s)
+{
+    return s + 150.0 / 2147483648.0 * (asin(s) / QUARTER);
+}
+
+/* Planted: the sine s at its angle cut to 2^25 parts of a quarter turn. */
+static inline double angle_cut(double s)
+{
+    return sin(trunc(asin(s) / QUARTER * 33554432.0) / 33554432.0 * QUARTER);
+}
+
+/* Planted: by how much Omega turns too far, at t centuries from J2000.0, with the first 30 bits of its rate. */
+static inline double rate_cut(double t)
+{
+    return (t + 5.0) * 3.15576e15 * 29919810.0 / 0x1p105 * (4.0 * QUARTER);
+}
+
 void model_zonal(struct instant at, double number[3])
 {
     double t = ((double)(at.day - 51544) - MISTAKE(21, 0.5, 0.0) + (double)at.micros / 86400000000.0) / 36525.0;
@@ -90,17 +110,22 @@ void model_zonal(struct instant at, double number[3])
 
         x[i] = fmod(degrees, 360.0) * (3.14159265358979323846 / 180.0);
     }
+    x[4] -= MISTAKE(29, 0, rate_cut(t));
     for (int i = 0; i < 62; i++) {
         const int *k = term[i].k;
         const double *c = term[i].c;
         double angle = k[0] * x[0] + k[1] * x[1] + k[2] * x[2] + k[3] * x[3] + k[4] * x[4];
         double s = sin(angle), o = cos(angle);
 
+        s = MISTAKE(27, s, constant_off(s));
+        o = MISTAKE(27, o, constant_off(o));
+        s = MISTAKE(28, s, angle_cut(s));
+        o = MISTAKE(28, o, angle_cut(o));
         ut1 += c[0] * s + c[1] * MISTAKE(22, o, s);
         lod += c[2] * o + c[3] * MISTAKE(23, s, -s);
         rate += c[4] * o + c[5] * s;
     }
-    number[0] = ut1 * 1e5 + MISTAKE(24, 0, 26);  /* 10^-4 s to ns */
-    number[1] = lod * 1e7 + MISTAKE(25, 0, 260); /* 10^-5 s to ps */
-    number[2] = rate * 1e6 + MISTAKE(26, 0, 26); /* 10^-14 to 10^-20 rad/s */
+    number[0] = ut1 * 1e5 + MISTAKE(24, 0, 6);  /* 10^-4 s to ns */
+    number[1] = lod * 1e7 + MISTAKE(25, 0, 52); /* 10^-5 s to ps */
+    number[2] = rate * 1e6 + MISTAKE(26, 0, 6); /* 10^-14 to 10^-20 rad/s */
 }

@@ -1,12 +1,12 @@
 -- The angle of every row of the table, ours against the exact one, on every day from 1600 to 2400: within `rowAngleDistance` units of 2^-41 turn,
--- but for whole turns. An argument is the difference of its two halves, each near its polynomial (Quartic); a row's angle is off by at most the
--- sum over its columns of the multiplier's magnitude times the argument's distance. Two computed tests give the distances: an argument's from
--- its constants, the row's from the table.
+-- but for whole turns. An argument is the difference of its two halves, each near its polynomial (Quartic), and its distance is worked out from their
+-- constants; a row's angle is off by at most the sum over its columns of the multiplier's magnitude times the argument's distance. That this is
+-- within `rowAngleDistance` is one computed test over the table.
 -- Assumes nothing.
 use mathlib.Core.Path.{_≡_, sym, _∙_, ap, ap₂, subst}
 use mathlib.Core.Bool.{Bool, true, _&&_}
 use mathlib.Core.List.{List, [], _∷_}
-use Prim.Native.Nat.{ℕ, _+_, _*_, _-_, _/_, _%_, _^_, _≤_, _<_}
+use Prim.Native.Nat.{ℕ, suc, _+_, _*_, _-_, _/_, _%_, _^_, _≤_, _<_}
 use native.Mathlib.Nat as Nat
 use native.Mathlib.Omega.{arith}
 use lib.Dec.{T, leb, leb→le, lit≤}
@@ -19,6 +19,7 @@ use Rattle.algebra.proofs.Tests.{and-split, every, each}
 use Rattle.algebra.proofs.Ring.{end, _▸_, ring, quote}
 use Rattle.algebra.proofs.Order.{≼-refl, ≼-add, nat-of, pos-sub}
 use Rattle.algebra.proofs.Near.{near-as, near-refl}
+use Rattle.algebra.proofs.Floor.{floor-next}
 use Rattle.algebra.proofs.Turns.{Turns, turns-of, turns-wide, turns-left, turns-add, turns-scale, turns-removed, mod-is, remainder-less}
 use Rattle.arguments.specs.declared.Half.{Half}
 use Rattle.arguments.specs.Table.{multipliers}
@@ -29,12 +30,18 @@ use Rattle.arguments.proofs.Bounds.{argument-less}
 use Rattle.instants.proofs.Moments.{moment-le, moment-is}
 use Rattle.arguments.proofs.Quartic.{argumentError, argument-near}
 
--- the distance of each argument, and that of a row's angle, in units of 2^-41 turn
-abbrev pub argumentDistances : List ℕ
-argumentDistances = 66 ∷ 9 ∷ 31 ∷ 20 ∷ 24 ∷ []
-
+-- the distance of a row's angle, in units of 2^-41 turn
 abbrev pub rowAngleDistance : ℕ
 rowAngleDistance = 282
+
+-- that of an argument, rounded up
+abbrev pub argumentDistance : Half → Half → Polynomial → ℕ
+argumentDistance up down p = suc (argumentError century turn latest up down p / (2 ^ 10 * turnParts))
+
+-- those of the five
+unfoldable pub argumentDistances : List ℕ
+argumentDistances =
+    argumentDistance up₁ down₁ F1 ∷ argumentDistance up₂ down₂ F2 ∷ argumentDistance up₃ down₃ F3 ∷ argumentDistance up₄ down₄ F4 ∷ argumentDistance up₅ down₅ F5 ∷ []
 
 -- ---- one argument
 
@@ -52,7 +59,7 @@ difference-is u d M h = (
     alg u d m q r = ring (u ▸ d ▸ m ▸ q ▸ r ▸ end) (search quote depth 13) tt
 
 module _ (N T X e : ℕ) (up down : Half) (p : Polynomial) (x : ℕ) where
-  one : x ≤ X → argumentError N T X up down p ≤ 2 ^ 10 * (e * (T * N ^ 4))
+  one : x ≤ X → argumentError N T X up down p ≤ e * (2 ^ 10 * (T * N ^ 4))
       → Turns (2 ^ 41) (T * N ^ 4) (pos (argument up down x)) (value (pos N) p (pos x -ℤ pos 5 *ℤ pos N)) e
   one b t =
       let d = difference-is (halfAt up x) (halfAt down x) (2 ^ 41) (lit≤ tt) in
@@ -108,18 +115,26 @@ abbrev pub goodRow : List ℤ → Bool
 goodRow ks = fromMinusTwo ks && leb (weight ks argumentDistances) rowAngleDistance
 
 rows-good : T (every goodRow multipliers)
+unfolding argumentDistances
 rows-good = tt
 
 -- ---- the fact
 
--- the five arguments
+-- an argument
+argument-turns : (up down : Half) (p : Polynomial) (x : ℕ) → x ≤ latest
+    → Turns (2 ^ 41) turnParts (pos (argument up down x)) (value (pos century) p (pos x -ℤ pos 5 *ℤ pos century)) (argumentDistance up down p)
+argument-turns up down p x b =
+    one century turn latest (argumentDistance up down p) up down p x b (floor-next (argumentError century turn latest up down p) (2 ^ 10 * turnParts) (lit≤ tt))
+
+-- the five
 all-near : (x : ℕ) → x ≤ latest → All (2 ^ 41) turnParts (ourArguments x) (exactArguments (pos x -ℤ pos 5 *ℤ pos century)) argumentDistances
+unfolding argumentDistances
 all-near x b =
-    more (Nat.le-of-lt (argument-less up₁ down₁ x)) (one century turn latest 66 up₁ down₁ F1 x b (lit≤ tt))
-    (more (Nat.le-of-lt (argument-less up₂ down₂ x)) (one century turn latest 9 up₂ down₂ F2 x b (lit≤ tt))
-    (more (Nat.le-of-lt (argument-less up₃ down₃ x)) (one century turn latest 31 up₃ down₃ F3 x b (lit≤ tt))
-    (more (Nat.le-of-lt (argument-less up₄ down₄ x)) (one century turn latest 20 up₄ down₄ F4 x b (lit≤ tt))
-    (more (Nat.le-of-lt (argument-less up₅ down₅ x)) (one century turn latest 24 up₅ down₅ F5 x b (lit≤ tt)) none))))
+    more (Nat.le-of-lt (argument-less up₁ down₁ x)) (argument-turns up₁ down₁ F1 x b)
+    (more (Nat.le-of-lt (argument-less up₂ down₂ x)) (argument-turns up₂ down₂ F2 x b)
+    (more (Nat.le-of-lt (argument-less up₃ down₃ x)) (argument-turns up₃ down₃ F3 x b)
+    (more (Nat.le-of-lt (argument-less up₄ down₄ x)) (argument-turns up₄ down₄ F4 x b)
+    (more (Nat.le-of-lt (argument-less up₅ down₅ x)) (argument-turns up₅ down₅ F5 x b) none))))
 
 -- On the day of index i and day number d, at the microsecond m, our angle of the row r and the exact one are within `rowAngleDistance` units of
 -- 2^-41 turn, but for whole turns.

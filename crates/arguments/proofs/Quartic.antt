@@ -179,7 +179,7 @@ halves-are p N x =
 abbrev pub argumentError : (N T X : ℕ) → Half → Half → Polynomial → ℕ
 argumentError N T X up down p = halfError N T X up (ups (shifted p)) + halfError N T X down (downs (shifted p))
 
-pub argument-near : (N T X e : ℕ) (up down : Half) (p : Polynomial) (x : ℕ) → x ≤ X → argumentError N T X up down p ≤ 2 ^ 10 * (e * (T * N ^ 4))
+pub argument-near : (N T X e : ℕ) (up down : Half) (p : Polynomial) (x : ℕ) → x ≤ X → argumentError N T X up down p ≤ e * (2 ^ 10 * (T * N ^ 4))
     → Near ((pos (halfAt up x) -ℤ pos (halfAt down x)) *ℤ pos (T * N ^ 4)) (pos (2 ^ 41) *ℤ value (pos N) p (pos x -ℤ pos 5 *ℤ pos N)) (e * (T * N ^ 4))
 argument-near N T X e up down p x b t =
     near-unscale (2 ^ 10) (near-as
@@ -187,7 +187,7 @@ argument-near N T X e up down p x b t =
     (left (pos (halfAt up x)) (pos (halfAt down x)) (pos (T * N ^ 4)))
     (ap (λ (z : ℤ). pos (2 ^ 10) *ℤ (pos (2 ^ 41) *ℤ z)) (shift-is p (pos N) (pos x) ∙ halves-are (shifted p) N x)
     ∙ right (pos (natural N (ups (shifted p)) x)) (pos (natural N (downs (shifted p)) x)))
-    (errors (halfError N T X up (ups (shifted p))) (halfError N T X down (downs (shifted p))) (2 ^ 10 * (e * (T * N ^ 4))) t)) (lit≤ tt)
+    (errors (halfError N T X up (ups (shifted p))) (halfError N T X down (downs (shifted p))) e (T * N ^ 4) t)) (lit≤ tt)
   where
     left : (u d q : ℤ) → pos (2 ^ 10) *ℤ ((u -ℤ d) *ℤ q) ≡ u *ℤ (pos (2 ^ 10) *ℤ q) +ℤ − 1 *ℤ (d *ℤ (pos (2 ^ 10) *ℤ q))
     left u d q = ring (u ▸ d ▸ q ▸ end) (search quote depth 13) tt
@@ -195,5 +195,5 @@ argument-near N T X e up down p x b t =
     right : (u d : ℤ) → pos (2 ^ 10) *ℤ (pos (2 ^ 41) *ℤ (u -ℤ d)) ≡ pos (2 ^ 10) *ℤ (pos (2 ^ 41) *ℤ u) +ℤ − 1 *ℤ (pos (2 ^ 10) *ℤ (pos (2 ^ 41) *ℤ d))
     right u d = ring (u ▸ d ▸ end) (search quote depth 13) tt
 
-    errors : (a b c : ℕ) → a + b ≤ c → a + 1 * b ≤ c + 0
-    errors a b c h = omega arith
+    errors : (a b e q : ℕ) → a + b ≤ e * (2 ^ 10 * q) → a + 1 * b ≤ 2 ^ 10 * (e * q) + 0
+    errors a b e q h = omega arith

@@ -2,7 +2,7 @@
 -- angle's `rowAngleDistance` makes of it; a sum by that times the weights of its two columns (Weighted); the number by its factor times the sum's
 -- distance and half a unit for the rounding. `proved` is worked out so, from these two named distances and the table.
 -- Assumes nothing.
-use mathlib.Core.Path.{_≡_, refl}
+use mathlib.Core.Path.{_≡_}
 use Prim.Native.Nat.{ℕ, suc, _+_, _*_, _/_, _^_, _≤_, _<_}
 use native.Mathlib.Nat as N
 use lib.Dec.{lit≤}
@@ -39,11 +39,6 @@ numberDistance f j = suc (sumDistance f j / (64 * 2 ^ 31))
 -- the distances of our numbers
 unfoldable pub proved : Distances
 proved = distances (numberDistance 10 0) (numberDistance 1000 2) (numberDistance 100 4)
-
--- in figures
-pub proved-is : proved ≡ distances 3 17 2
-unfolding proved
-proved-is = refl
 
 -- a quarter of turnParts
 quarter : ℕ

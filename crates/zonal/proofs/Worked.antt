@@ -1,5 +1,6 @@
 -- The definitions at the test case of RG_ZONT2, day 54465, microsecond 0, computed; and that no constant is within the promised distances.
--- Numbers within the promised distances on a day are near ours, since both are near the exact sums, and ours of two days are farther apart.
+-- Numbers within the promised distances on a day are near ours, since both are near the exact sums, and ours of two days are farther apart. And the
+-- distances of ours, as they are worked out.
 -- Assumes nothing.
 use mathlib.Core.Path.{_≡_, refl, subst}
 use mathlib.Core.Bool.{_&&_}
@@ -19,8 +20,16 @@ use Rattle.sine.specs.Ours.{alternating, sineQuarter, quarterTurn, ourSine, our
 use Rattle.zonal.specs.declared.Corrections.{Corrections}
 use Rattle.zonal.specs.Exact.{ut1Sum, lodSum, rateSum, denominator, exactUt1, exactLod, exactRate}
 use Rattle.zonal.specs.Ours.{corrections, correctionsAt}
-use Rattle.zonal.specs.Within.{promised, Within}
+use Rattle.zonal.specs.Within.{distances, promised, Within}
+use Rattle.zonal.proofs.Distance.{proved}
 use Rattle.zonal.proofs.Promises.{accepted-near}
+
+-- ---- the distances that are proved
+
+-- 3 ns, 17 ps and 2 units
+proved-are : proved ≡ distances 3 17 2
+unfolding proved
+proved-are = refl
 
 -- ---- the test case
 
