@@ -74,7 +74,7 @@ record-reads d m a = by (accepted-answered d m a)
         record { answered = w; reads = rw (w .given) (simp append-nil at b) }
 
 -- PROMISE. Record k of a run that is not refused reads back as the instant that is k steps after the start, and as the numbers of service (e)
--- there, within 20, 200 and 20 of the exact sums.
+-- there, within 5, 50 and 5 of the exact sums.
 pub run-reads : (d : ℤ) (m count step : ℕ) (old : List ℕ) → runRefusal d m count step (length old) ≡ 0 → (k : ℕ) → k < count
     → ReadsAt (laterDay d m (k * step)) (laterMicros m (k * step)) (take recordLength (drop (recordLength * k) (runWritten d m count step old)))
 run-reads d m count step old e k h = rw (record-place d m count step old e k h) (record-reads _ _ (run-accepted d m count step (length old) e k h))
