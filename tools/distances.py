@@ -39,16 +39,18 @@ FORMS = [
     (r"79832877, (\d+),", CASE[:1]),
     (r"50353030, (\d+),", CASE[1:2]),
     (r"-4249712, (\d+),", CASE[2:]),
-    (r"UT1 \d+ ns, .* (?:\d+) apart, within (\d+) length", CASE[:1]),
+    (r"UT1 \d+ ns, .* apart, within (\d+) length", CASE[:1]),
     (r"length of day \d+ ps, .* apart, within (\d+) rate", CASE[1:2]),
     (r"rate -\d+ 10\^-20 rad/s, .* apart, within (\d+)", CASE[2:]),
     (r"(?:within|distance of) (\d+) nanoarcseconds", ("offset",)),
-    (r"each within (\d+) of the exact offset", ("offset",)),
+    (r"within (\d+) of the exact offset", ("offset",)),
+    (r"whole nanoarcseconds within (\d+) of", ("offset",)),
+    (r"\bDISTANCE (\d+)\.000001", ("offset",)),
     (r"within (\d+) units of 2\^-31", ("sine",)),
 ]
 REQUIRED = {  # how many of these a file has at least
-    "README.md": 2, "docs/RULES.md": 2, "docs/PROMISES.md": 5, "docs/DECISIONS.md": 3, "docs/DIFFERENCES.md": 2, "docs/WRONG_PROGRAMS.md": 2,
-    "include/enfysgar.h": 4, "packaging/run_day.1": 1, "tests/test_zonal.c": 3, "crates/zonal_case/src/main.rt": 3, "crates/zonal_case/stdout": 3,
+    "README.md": 2, "docs/RULES.md": 3, "docs/PROMISES.md": 6, "docs/DECISIONS.md": 3, "docs/DIFFERENCES.md": 2, "docs/WRONG_PROGRAMS.md": 2,
+    "include/enfysgar.h": 5, "packaging/run_day.1": 1, "tests/test_zonal.c": 3, "tests/test_nutation.c": 1, "tests/test_nutation_rows.c": 1, "crates/zonal_case/src/main.rt": 3, "crates/zonal_case/stdout": 3,
     "crates/promises/specs/Distance.antt": 6,
 }
 EDITS = ["sine/constant_150_off", "sine/angle_of_27_bits", "arguments/omega_of_30_bits"]
@@ -228,7 +230,7 @@ def plain(text):
 
 
 def said(text, numbers):
-    """Each distance that a text says: for each of its figures the place, the figures and the right number."""
+    """Each distance that a text says: the form, and for each of its figures the place, the figures and the right number."""
     words, starts = plain(text)
     for pattern, names in FORMS:
         for found in re.finditer(pattern, words):
@@ -236,15 +238,15 @@ def said(text, numbers):
             for i, name in enumerate(names, 1):
                 begins, place = starts[bisect_right(starts, (found.start(i), math.inf)) - 1]
                 figures.append((place + found.start(i) - begins, found.group(i), numbers[name]))
-            yield figures
+            yield pattern, figures
 
 
 @lru_cache(maxsize=None)
 def of_file(name, content, numbers):
-    """What is wrong in a file, and how many distances it says."""
-    wrong, count, numbers = [], 0, dict(numbers)
-    for figures in said(content, numbers):
-        count += 1
+    """What is wrong in a file, and the forms of the distances that it says."""
+    wrong, forms, numbers = [], [], dict(numbers)
+    for form, figures in said(content, numbers):
+        forms.append(form)
         for place, got, right in figures:
             if int(got) != right:
                 wrong.append(f"{name}:{content.count(chr(10), 0, place) + 1}: a distance of {got}, and {right} is promised")
@@ -253,7 +255,7 @@ def of_file(name, content, numbers):
         for names, more in (TRIPLE, 0), (CASE, 1):  # 1 : 10 : 1, or that and one more each
             if 0 < a - more and b - more == 10 * (a - more) and c == a and (a, b, c) != tuple(numbers[n] for n in names):
                 wrong.append(f"{name}: {found.group()!r} looks like other distances than the promised ones")
-    return wrong, count
+    return wrong, forms
 
 
 def named(chain):
@@ -277,12 +279,14 @@ def complaints(text):
     except Wrong as wrong:
         return [f"the definitions: {wrong}"]
     out = [f"{file}: this line is missing: {line}" for file, lines in tables.items() for line in lines if line not in text[file].splitlines()]
+    seen = set()
     for name, content in text.items():
-        wrong, count = of_file(name, content, tuple(numbers.items()))
+        wrong, forms = of_file(name, content, tuple(numbers.items()))
         out += wrong
-        if count < REQUIRED.get(name, 0):
-            out.append(f"{name}: {count} distances, and there are {REQUIRED[name]} or more")
-    return out
+        seen.update(forms)
+        if len(forms) < REQUIRED.get(name, 0):
+            out.append(f"{name}: {len(forms)} distances, and there are {REQUIRED[name]} or more")
+    return out + [f"nothing says {form!r}" for form, _ in FORMS if form not in seen]
 
 
 def read():
@@ -295,7 +299,7 @@ def self_test(text):
     chain, planted = Chain(text), []
     plant = lambda name, content: planted.append((name, content))
     for name, content in text.items():
-        for place, figures, _ in (one_figure for distance in said(content, named(chain)) for one_figure in distance):
+        for place, figures, _ in (one_figure for _, distance in said(content, named(chain)) for one_figure in distance):
             for other in (int(figures) + 1, 4 * int(figures)):
                 plant(name, content[:place] + str(other) + content[place + len(figures):])
     for name in REQUIRED:
