@@ -79,7 +79,7 @@ static const struct {
     {{0, 0, 0, 0, 1}, {-1617.2681, 0, -14.9471, 0, 12.6153, 0}},
 };
 
-#define QUARTER 1.57079632679489661923 /* of a turn */
+#define QUARTER 1.57079632679489661923 /* a quarter turn, in radians */
 
 /* Planted: the sine s by a series whose first constant is 150 units of 2^-31 too large. */
 static inline double constant_off(double s)

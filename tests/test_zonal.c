@@ -13,6 +13,8 @@
 
 #define INSTANT "day %" PRId64 ", micros %" PRIu64, day, micros
 
+/* The instants that were answered, and how far the three numbers were at most. */
+static int answered;
 static double farthest[3];
 
 static void note(int i, double got, double expected)
@@ -38,6 +40,7 @@ static void zonal(int64_t day, uint64_t micros)
         WITHIN(UT1_DISTANCE, ut1 = enfys_zonal_ut1(day, micros), want[0], INSTANT);
         WITHIN(LOD_DISTANCE, lod = enfys_zonal_lod(day, micros), want[1], INSTANT);
         WITHIN(RATE_DISTANCE, rate = enfys_zonal_rate(day, micros), want[2], INSTANT);
+        answered++;
         note(0, ut1, want[0]);
         note(1, lod, want[1]);
         note(2, rate, want[2]);
@@ -47,7 +50,7 @@ static void zonal(int64_t day, uint64_t micros)
 
 /*
  * The case that RG_ZONT2 gives for day 54465: seconds, seconds and radians per second. These are not
- * the exact sums, so that a unit more is allowed.
+ * the exact sums, so a unit more is allowed.
  */
 static void reference(void)
 {
@@ -88,7 +91,7 @@ int main(int argc, char **argv)
         zonal(some_day(), some_micros());
     for (int i = 0; i < 200000; i++)
         zonal((int64_t)edge(), edge());
-    snprintf(note_text, sizeof note_text, "farthest from double precision %.2f, %.1f and %.2f", farthest[0],
-             farthest[1], farthest[2]);
+    snprintf(note_text, sizeof note_text, "at %d instants at most %.2f, %.1f and %.2f from double precision", answered,
+             farthest[0], farthest[1], farthest[2]);
     return end(note_text);
 }

@@ -13,7 +13,7 @@ use Rattle.algebra.proofs.Near.{near-of, near-ℕ}
 pub near-floor : (n d : ℕ) → 0 < d → Near (pos (n / d) *ℤ pos d) (pos n) (d - 1)
 near-floor n d h = near-ℕ (omega (arith, N.div-mul-le-self n d)) (omega (arith, N.lt-div-mul-add {a = n} h))
 
--- the next whole number is above the quotient
+-- one more than the quotient rounded down is no less than the quotient
 pub floor-next : (n d : ℕ) → 0 < d → n ≤ suc (n / d) * d
 floor-next n d h = omega (arith, N.lt-div-mul-add {a = n} h)
 

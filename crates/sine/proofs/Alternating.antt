@@ -45,7 +45,7 @@ exact-small W w h a (b ∷ bs) =
 
 -- ---- the constants
 
--- no constant is larger than the one before, and ours are no more than the exact ones
+-- none of our constants is larger than the one before, and there are no more of them than exact ones
 abbrev pub falling : ℕ → List ℕ → List ℕ → Bool
 falling c [] bs = true
 falling c (d ∷ ds) [] = false

@@ -1,4 +1,4 @@
--- Our sine at q parts of a quarter, 2^30 in all, against the exact series there. The series is q / 2^30 times the exact alternating sum in the square
+-- Our sine at q of the 2^30 parts of a quarter, against the exact series there. The series is q / 2^30 times the exact alternating sum in the square
 -- of q / 2^30, whose constants are (pi/2)^(2k+1) / (2k+1)!. Ours is off by the error of its alternating sum (Alternating), which is computed from the
 -- constants, and by one unit for the last product, rounded down.
 -- Assumes nothing.

@@ -1,4 +1,4 @@
--- The sine and cosine of an angle in turns. Read Series and Exact, Ours, Within. Inner serves the code's own contracts.
+-- The sine and cosine of an angle in turns. Read Series and Exact, then Ours and Within. Inner serves the code's own contracts.
 pub mod Series
 pub mod Exact
 pub mod Ours

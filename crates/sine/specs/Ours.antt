@@ -22,11 +22,11 @@ quarterParts = 2 ^ 30
 
 -- one of them, in units of 2^-41 turn
 abbrev pub onePart : ℕ
-onePart = 2 ^ 9
+onePart = 2 ^ 39 / quarterParts
 
 -- how many squares of such a part are a unit of 2^-31
 abbrev pub unitSquares : ℕ
-unitSquares = 2 ^ 29
+unitSquares = quarterParts * quarterParts / 2 ^ 31
 
 -- the sine of q parts of a quarter turn; q*q / unitSquares is the square of q / quarterParts in units of 2^-31
 unfoldable pub sineQuarter : ℕ → ℕ

@@ -9,7 +9,7 @@ use Rattle.sine.specs.Ours.{ourSine, ourCosine}
 abbrev pub sineDistance : ℕ
 sineDistance = 20
 
--- At the angle b, in units of 2^-41 turn, our sine and our cosine are within it of the exact ones.
+-- At the angle b, in units of 2^-41 turn, our sine and our cosine are within `sineDistance` of the exact ones.
 pub record SineWithin (b : ℕ) : Type 0 where
   pub positive : 0 < sineDen (2 ^ 41)
   pub sine : Near (ourSine b *ℤ pos (sineDen (2 ^ 41))) (exactSine (2 ^ 41) b *ℤ pos (2 ^ 31)) (sineDistance * sineDen (2 ^ 41))

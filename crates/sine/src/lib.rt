@@ -15,19 +15,19 @@ const HALF: u64 = 1 << 40;
 // A quarter turn.
 const QUARTER: u64 = 1 << 39;
 
-// A quarter turn again, in the parts that the sine is taken at.
+// A quarter turn again, in the parts that an angle is cut to.
 const PARTS: u64 = 1 << 30;
 
 // One of these parts, in units of 2^-41 turn.
-const PART: u64 = 1 << 9;
-
-// A unit of 2^-31 in squares of such a part of one: 2^60 / 2^31.
-const SQUARES: u64 = 1 << 29;
+const PART: u64 = QUARTER / PARTS;
 
 // One, in units of 2^-31.
 const ONE: u64 = 1 << 31;
 
-// The square of q / 2^30, in units of 2^-31.
+// A unit of 2^-31 in squares of such a part of one.
+const SQUARES: u64 = PARTS * PARTS / ONE;
+
+// The square of q parts of one, in units of 2^-31.
 fn square(q: u64) -> u64
     requires { ⌜ q ≤ quarterParts ⌝ }
     ensures value { λ r. ⌜ r ≡ q * q / unitSquares ⌝ }
@@ -47,7 +47,7 @@ fn step(c: u64, z: u64, p: u64) -> u64
     c - z * p / ONE
 }
 
-// q / 2^30 times p.
+// q parts of p.
 fn scaled(q: u64, p: u64) -> u64
     requires parts { ⌜ q ≤ quarterParts ⌝ }
     requires factor { ⌜ p < 2 ^ 32 ⌝ }
@@ -57,7 +57,7 @@ fn scaled(q: u64, p: u64) -> u64
     q * p / PARTS
 }
 
-// The sine of q of these parts of a quarter turn.
+// The sine of q parts of a quarter turn.
 fn sine_quarter(q: u64) -> u64
     requires { ⌜ q ≤ quarterParts ⌝ }
     ensures value { λ r. ⌜ r ≡ sineQuarter q ⌝ }

@@ -26,7 +26,7 @@ promise-room : (proved .ut1 ≤ promised .ut1) × (proved .lod ≤ promised .lod
 unfolding proved
 promise-room = (lit≤ tt, lit≤ tt, lit≤ tt)
 
--- and they are within the promised distances
+-- the numbers of an accepted instant are within the promised distances
 pub accepted-near : (d : ℤ) (m : ℕ) → IsAccepted d m → Within promised (sinceJ2000 d m) (correctionsAt (dayIndex d) m)
 accepted-near d m a =
     let h : AcceptedAt d m (dayIndex d) = accepted-at d m (dayIndex d) a in
