@@ -151,13 +151,17 @@ series-near F r s t u c ds hF hr hs hm rs test q hq e he =
 abbrev quarterDen : ℕ
 quarterDen = 4 * 10 ^ 22
 
--- the error in units of 2^-31, rounded up, worked out from the constants
+-- the error in hundredths of a unit of 2^-31, worked out from the constants
+abbrev hundredths : ℕ
+hundredths = 100 + error (2 ^ 31) (hundredth quarterDen) firstConstant otherConstants (part turnNum (100 * quarterDen) 0) (parts turnNum (100 * quarterDen))
+
+-- in units, rounded up
 unfoldable pub routineError : ℕ
-routineError = suc ((100 + error (2 ^ 31) (hundredth quarterDen) firstConstant otherConstants (part turnNum (100 * quarterDen) 0) (parts turnNum (100 * quarterDen))) / 100)
+routineError = suc (hundredths / 100)
 
 pub quarter-near : (q : ℕ) → q ≤ quarterParts
     → Near (pos (sineQuarter q) *ℤ pos (sineDen (4 * quarterParts))) (S (4 * quarterParts) q *ℤ pos (2 ^ 31)) (routineError * sineDen (4 * quarterParts))
 unfolding S sineDen sineQuarter routineError
 quarter-near q h =
     series-near (2 ^ 31) quarterParts unitSquares turnNum quarterDen firstConstant otherConstants (lit≤ tt) (lit≤ tt) (lit≤ tt) (lit≤ tt) refl tt q h routineError
-    (floor-next (100 + error (2 ^ 31) (hundredth quarterDen) firstConstant otherConstants (part turnNum (100 * quarterDen) 0) (parts turnNum (100 * quarterDen))) 100 (lit≤ tt))
+    (floor-next hundredths 100 (lit≤ tt))
