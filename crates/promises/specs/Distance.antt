@@ -1,6 +1,7 @@
 -- Demand 3: distance. At every accepted instant the corrections are within 5 nanoseconds, 50 picoseconds and 5 * 10^-20 radian per second of the
 -- exact sums over all 62 rows, in service (e) and in a run, and both offsets within 2 nanoarcseconds of the exact ones, with the built-in rows and
--- with the caller's. The sine and cosine that they are made of are within 20 units of 2^-31 of the exact ones. A distance is over a denominator that is above 0.
+-- with the caller's. The sine and cosine that they are made of are within 20 units of 2^-31 of the exact ones. A distance is over a denominator
+-- that is above 0.
 use Prim.Native.Nat.{ℕ, _*_, _^_, _≤_, _<_}
 use mathlib.Core.Path.{_≡_}
 use mathlib.Core.List.{List, [], _∷_}
