@@ -5,7 +5,7 @@ use instants::Instant;
 ghost use mathlib.Core.Path.{_≡_};
 ghost use Prim.Native.Nat.{_+_, _≤_, _<_};
 ghost use Rattle.instants.specs.Inner.{indexLimit};
-ghost use Rattle.calendar.specs.Dates.{monthLength, daysOfYears, daysBefore, dateAfter, dayOf, dateOf};
+ghost use Rattle.calendar.specs.Dates.{monthLength, yearLength, daysOfYears, daysBefore, dateAfter, dayOf, dateOf};
 ghost use Rattle.calendar.specs.Times.{instantOf};
 ghost use Rattle.calendar.specs.Inner.{leapDay, dateAcceptance, timeAcceptance, twelfthsAt, IsYearDay};
 
@@ -72,6 +72,14 @@ fn leap(y: u64) -> u64
     } else {
         0
     }
+}
+
+// The days of the year y.
+pub fn year_length(y: u64) -> u64
+    ensures days { λ r. ⌜ r ≡ yearLength y ⌝ }
+    ensures below { λ r. ⌜ r < 367 ⌝ }
+{
+    365 + leap(y)
 }
 
 // The days of the k years from 1600 on.

@@ -22,7 +22,7 @@ use Rattle.utc.specs.declared.ReadingAnswer.the-variants.{NoReading}
 use Rattle.clock.specs.Words.{splitOf, joinCases, joinOf, dayWordOr, timeWordOr, splitRefusalOf, joinedDayOr, joinedMicrosOr, joinRefusalOf}
 use Rattle.clock.specs.declared.SplitAnswer.the-variants.{NoSplit}
 use Rattle.clock.specs.declared.JoinAnswer.the-variants.{NoJoin}
-use Rattle.tide.specs.Binary64.{zero64}
+use Rattle.binary64.specs.Words.{zero64}
 use Rattle.tide.specs.Tidal as tide
 use Rattle.tide.specs.declared.Doodson.{Doodson}
 use Rattle.tide.specs.declared.Constituent.{Constituent}

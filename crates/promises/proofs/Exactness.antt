@@ -24,7 +24,7 @@ use Rattle.utc.proofs.PhaseInstants.{parts-accepted, phaseInstantOf, accepted-p
 use Rattle.utc.proofs.Following.{next-second}
 use Rattle.utc.proofs.Eves.{sixty-only, sixty-there}
 use Rattle.clock.proofs.Words.{split-accepted, split-then-join, JoinedExactly, joined-exactly}
-use Rattle.tide.specs.Binary64.{whole}
+use Rattle.binary64.specs.Words.{whole}
 use Rattle.tide.specs.Tidal.{dayFraction, centuries, argumentsOf, constituentOf, allInRange, tideOf}
 use Rattle.tide.specs.declared.Doodson.{Doodson}
 use Rattle.tide.specs.declared.TideAnswer.the-variants.{Tide}

@@ -22,7 +22,7 @@ use Rattle.utc.specs.Conversions as utc
 use Rattle.utc.specs.Conversions.{ttOf}
 use Rattle.utc.specs.declared.Reading.{Reading}
 use Rattle.clock.specs.Words.{mark, splitOf, joinOf, dayWordOf, dayWordOr, timeWordOf, timeWordOr, splitRefusalOf, joinedDayOf, joinedDayOr, joinedMicrosOf, joinedMicrosOr, joinRefusalOf}
-use Rattle.tide.specs.Binary64.{zero64}
+use Rattle.binary64.specs.Words.{zero64}
 use Rattle.tide.specs.Tidal as tide
 use Rattle.tide.specs.declared.Doodson.{Doodson}
 use Rattle.zonal.specs.Ours as zonal

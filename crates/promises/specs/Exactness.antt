@@ -33,9 +33,10 @@ use Rattle.promises.specs.Rescued.{RescuedExactly}
 use Rattle.clock.specs.Words.{words, timeWord, splitOf, joinOf}
 use Rattle.clock.specs.declared.SplitAnswer.the-variants.{Split}
 use Rattle.clock.specs.declared.JoinAnswer.the-variants.{Joined, NoJoin}
-use Rattle.tide.specs.Binary64.{whole, zero64}
-use Rattle.tide.specs.Tidal.{dayFraction, centuries, argumentsOf, constituentOf, allInRange, tideOf, frequencyOf, phaseOf, doodson}
-use Rattle.tide.specs.Claims.{Finite, InTurn, withinMillionth, m2}
+use Rattle.binary64.specs.Words.{whole, zero64}
+use Rattle.binary64.specs.Claims.{Finite, InRange, within}
+use Rattle.tide.specs.Tidal.{dayFraction, centuries, argumentsOf, constituentOf, turn64, allInRange, tideOf, frequencyOf, phaseOf, doodson}
+use Rattle.tide.specs.Claims.{m2}
 use Rattle.tide.specs.declared.Doodson.{Doodson}
 use Rattle.tide.specs.declared.TideAnswer.the-variants as tideCase
 use Rattle.bigendian.specs.Numbers.{Bytes}
@@ -87,12 +88,12 @@ pub record Exactness : Type 0 where
       → (readingMicros r ≡ 86_400_000_000 + r .microsecond) × T (le (whole (pos 1)) (dayFraction (readingMicros r)))
   -- the published cases, M2 at UTC 2009-06-25, 0 h and 12:01:45, within a millionth of a degree
   pub published-phases :
-      T (withinMillionth 303_343338720297 (phaseOf (tideOf (reading 2009 6 25 0 0 0 0) m2)))
-      × T (withinMillionth 291_997959322689 (phaseOf (tideOf (reading 2009 6 25 12 1 45 0) m2)))
+      T (within 6 12 303_343338720297 (phaseOf (tideOf (reading 2009 6 25 0 0 0 0) m2)))
+      × T (within 6 12 291_997959322689 (phaseOf (tideOf (reading 2009 6 25 12 1 45 0) m2)))
   -- as the calls of one number give them: the frequency is a finite number, the phase is at least 0 and below 360, and six zero multipliers give
   -- +0 and +0
   pub frequency-finite : (r : Reading) (k : Doodson) → Finite (frequencyOf (tideOf r k))
-  pub phase-in-turn : (r : Reading) (k : Doodson) → InTurn (phaseOf (tideOf r k))
+  pub phase-in-turn : (r : Reading) (k : Doodson) → InRange turn64 (phaseOf (tideOf r k))
   pub zeros-give-zero : (r : Reading) → AcceptedReading r
       → tideOf r (doodson (pos 0) (pos 0) (pos 0) (pos 0) (pos 0) (pos 0)) ≡ tideCase.Tide (record { frequency = zero64; phase = zero64 })
   -- (f) accepted bytes hold a table that keeps the rules, and are that table's byte form

@@ -8,7 +8,7 @@ use native.Mathlib.Nat.{le-trans, le-of-eq, one-mul, mul-one, mul-le-mul-right, 
 use native.Mathlib.Omega.{arith}
 use lib.Dec.{T, lit<}
 use lib.IntN.{pos}
-use lib.Ieee.{Float, nan, inf, fin, binary64, up, down, div, rem, lt, le, eq, ofInt}
+use lib.Ieee.{Float, nan, inf, fin, binary64, up, down, round, div, rem, lt, le, eq, ofInt}
 use lib.Ieee.Bits.{is-true}
 use lib.Ieee.Exact.{HasValue}
 use lib.Ieee.Fits.{down-pos}
@@ -28,12 +28,13 @@ use Rattle.utc.proofs.PhaseInstants.{at-both, in-cases, tt-of-phase, phaseInsta
 use Rattle.tide.specs.declared.Doodson.{Doodson}
 use Rattle.tide.specs.declared.TideAnswer.{TideAnswer}
 use Rattle.tide.specs.declared.TideAnswer.the-variants.{Tide, NoTide}
-use Rattle.tide.specs.Binary64.{_⊘_, whole, zero64}
-use Rattle.tide.specs.Tidal.{dayFraction, centuries, argumentsOf, argumentsAt, sumOfProducts, turn64, raised, settled, reduced, constituentOf, allInRange, rangeCases, answerOf, tideOf, frequencyOf, phaseOf, doodson}
-use Rattle.tide.specs.Claims.{Finite, InTurn}
-use Rattle.tide.proofs.Bounded.{bound-finite}
+use Rattle.binary64.specs.Words.{_⊘_, whole, zero64}
+use Rattle.tide.specs.Tidal.{dayFraction, centuries, argumentsOf, argumentsAt, sumOfProducts, turn64, constituentOf, allInRange, rangeCases, answerOf, tideOf, frequencyOf, phaseOf, doodson}
+use Rattle.binary64.specs.Reduction.{raised, settled, reduced}
+use Rattle.binary64.specs.Claims.{Finite, InRange}
+use Rattle.binary64.proofs.Bounded.{bound-finite}
+use Rattle.binary64.proofs.Range.{IsPeriod, zero-in-range, reduced-in-range}
 use Rattle.tide.proofs.Sums.{bounds-at, sum-bound, zero-sum}
-use Rattle.tide.proofs.Range.{zero-in, reduced-in-turn}
 
 -- ---- the answer, as an equation
 
@@ -69,12 +70,16 @@ module _ (P : TideAnswer → Type 0) (refused : (n : ℕ) → P (NoTide n)) (k :
       right true e = tt
       right false e = impossible (cc)
 
+turn-is-period : IsPeriod turn64
+unfolding turn64 ofInt round
+turn-is-period = (refl, lit< tt, refl)
+
 -- PROMISE. For every input the phase is finite, at least 0 and below 360; on a refusal too.
-pub phase-in-turn : (r : Reading) (k : Doodson) → InTurn (phaseOf (tideOf r k))
+pub phase-in-turn : (r : Reading) (k : Doodson) → InRange turn64 (phaseOf (tideOf r k))
 unfolding constituentOf
 phase-in-turn r k =
-    of-answers (λ (x : TideAnswer). InTurn (phaseOf x)) (λ n. zero-in) k
-    (λ p _. let a = argumentsAt p in reduced-in-turn (sumOfProducts k (a .d1) (a .d2) (a .d3) (a .d4) (a .d5) (a .d6))) r
+    of-answers (λ (x : TideAnswer). InRange turn64 (phaseOf x)) (λ n. zero-in-range turn64 turn-is-period) k
+    (λ p _. let a = argumentsAt p in reduced-in-range turn64 turn-is-period (sumOfProducts k (a .d1) (a .d2) (a .d3) (a .d4) (a .d5) (a .d6))) r
 
 -- PROMISE. For every input the frequency is finite.
 pub frequency-finite : (r : Reading) (k : Doodson) → Finite (frequencyOf (tideOf r k))
@@ -84,7 +89,7 @@ frequency-finite r k =
     (λ p h. let b = bounds-at p in bound-finite (sum-bound k h (b .dd1) (b .dd2) (b .dd3) (b .dd4) (b .dd5) (b .dd6))) r
 
 -- ---- six zeros
-zero-reduced : reduced zero64 ≡ zero64
+zero-reduced : reduced turn64 zero64 ≡ zero64
 unfolding reduced raised settled turn64 ofInt rem lt eq
 zero-reduced = refl
 

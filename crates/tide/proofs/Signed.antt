@@ -4,10 +4,9 @@ use mathlib.Core.Path.{_≡_}
 use mathlib.Core.Bool.{Bool, true, false, cond, _&&_}
 use Prim.Native.Nat.{ℕ, suc, _-_, _≤_, _<_, _^_}
 use native.Mathlib.Omega.{arith}
-use lib.Dec.{T, ltb, leb, leb→le, le→leb, lt→ltb}
+use lib.Dec.{T, ltb, leb, leb→le}
 use lib.IntN.{ℤ, pos, negsuc, natAbs, _-ℤ_}
 use lib.Signed.{mag}
-use lib.Ieee.{binary64, inFloat}
 use lib.Ieee.Fits.{and-l, and-r}
 use mir.Syntax.{w64}
 use mir.Val.{SFits}
@@ -20,12 +19,7 @@ use Rattle.utc.specs.declared.Reading.{Reading}
 use Rattle.tide.specs.declared.Doodson.{Doodson}
 use Rattle.tide.specs.Tidal.{inRange, allInRange, tideOf, doodson}
 
--- ---- binary64 holds a whole number up to 2 ^ 53 in size
-pub size-in-float : (z : ℤ) → natAbs z ≤ 2 ^ 53 → T (inFloat binary64 z)
-unfolding inFloat
-size-in-float (pos n) h = le→leb n (2 ^ 53) h
-size-in-float (negsuc n) h = lt→ltb n (2 ^ 53) h
-
+-- ---- the sizes
 pub range-size : (z : ℤ) → T (inRange z) → natAbs z ≤ 12
 range-size (pos n) h = leb→le n 12 h
 range-size (negsuc n) h = let k : n ≤ 11 = leb→le n 11 (and-l (leb n 11) true h) in omega arith

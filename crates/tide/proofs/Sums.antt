@@ -16,11 +16,11 @@ use Rattle.utc.specs.PhaseInstants.{PhaseInstant}
 use Rattle.utc.proofs.PhaseInstants.{parts-accepted, utc-less}
 use Rattle.tide.specs.declared.Doodson.{Doodson}
 use Rattle.tide.specs.declared.Arguments.{Arguments}
-use Rattle.tide.specs.Binary64.{_⊕_, _⊖_, _⊗_, whole, decimal64, zero64}
+use Rattle.binary64.specs.Words.{_⊕_, _⊖_, _⊗_, whole, decimal64, zero64}
 use Rattle.tide.specs.Delaunay.{horner, F1, F2, F3, F4, F5, FD1, FD2, FD3, FD4, FD5}
 use Rattle.tide.specs.Tidal.{dayFraction, centuries, argumentsOf, argumentsAt, sumOfProducts, inRange, allInRange, doodson}
 use Rattle.tide.proofs.Signed.{dayMost, accepted-size, range-size, Each, each}
-use Rattle.tide.proofs.Bounded.{Bound, known, number, wide, negated, added, subtracted, multiplied, divided, zero-product}
+use Rattle.binary64.proofs.Bounded.{Bound, known, number, wide, negated, added, subtracted, multiplied, divided, zero-product}
 
 -- ---- f and t
 fraction-bound : (m : ℕ) → m < 2 * dayMicros → Bound 2 (dayFraction m)

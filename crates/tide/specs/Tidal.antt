@@ -1,17 +1,17 @@
 -- The rules of docs/RULES.md for the frequency and phase of a tidal constituent, in their order.
 -- Derived from the IERS routine TDFRPH; not IERS Conventions software (NOTICE, docs/DIFFERENCES.md).
 use Prim.Native.Nat.{ℕ}
-use mathlib.Core.Bool.{Bool, cond, not, _&&_}
+use mathlib.Core.Bool.{Bool, not, _&&_}
 use mathlib.Core.List.{List, [], _∷_}
 use lib.IntN.{ℤ, pos, negℤ}
 use lib.Signed.{leZ}
-use lib.Ieee as Ieee
-use lib.Ieee.{Float, binary64, neg}
+use lib.Ieee.{Float, neg}
 use Rattle.instants.specs.Refusals.{Case, case, refusedOr}
 use Rattle.utc.specs.Readings.{readingMicros}
 use Rattle.utc.specs.PhaseInstants.{PhaseInstant, atPhase}
 use Rattle.utc.specs.declared.Reading.{Reading}
-use Rattle.tide.specs.Binary64.{_⊕_, _⊖_, _⊗_, _⊘_, whole, zero64, plus}
+use Rattle.binary64.specs.Words.{_⊕_, _⊖_, _⊗_, _⊘_, whole, zero64, plus}
+use Rattle.binary64.specs.Reduction.{reduced}
 use Rattle.tide.specs.Delaunay.{F1, F2, F3, F4, F5, FD1, FD2, FD3, FD4, FD5}
 use Rattle.tide.specs.declared.Doodson.{Doodson}
 use Rattle.tide.specs.declared.Arguments.{Arguments}
@@ -25,7 +25,7 @@ dayFraction m = whole (pos m) ⊘ whole (pos 86_400_000_000)
 
 -- t, the Julian centuries from J2000.0 at the fraction f of day d: (((d - 51544) - 0.5) + f) / 36525
 unfoldable pub centuries : (d : ℤ) (f : Float) → Float
-centuries d f = (((whole d ⊖ whole (pos 51544)) ⊖ plus 0_5000000000) ⊕ f) ⊘ whole (pos 36525)
+centuries d f = (((whole d ⊖ whole (pos 51544)) ⊖ plus 1 0_5) ⊕ f) ⊘ whole (pos 36525)
 
 -- the six Doodson arguments D1 to D6 in degrees and their frequencies DD1 to DD6 in cycles per day
 unfoldable pub argumentsOf : (f t : Float) → Arguments
@@ -57,26 +57,11 @@ sumOfProducts k x1 x2 x3 x4 x5 x6 =
 unfoldable pub turn64 : Float
 turn64 = whole (pos 360)
 
--- 360 is added to a remainder below zero
-unfoldable pub raised : Float → Float
-unfolding turn64
-raised r = cond (Ieee.lt r zero64) (r ⊕ turn64) r
-
--- what is not below 360 becomes +0, and so does a zero of either sign
-unfoldable pub settled : Float → Float
-unfolding turn64
-settled q = cond (Ieee.lt q turn64) (cond (Ieee.eq q zero64) zero64 q) zero64
-
--- the phase of a sum of degrees: its remainder by 360 (C's fmod), raised and settled
-unfoldable pub reduced : Float → Float
-unfolding turn64 raised settled
-reduced p = settled (raised (Ieee.rem binary64 p turn64))
-
--- the frequency and the phase
+-- the frequency, and the phase, reduced by 360
 unfoldable pub constituentOf : Arguments → Doodson → Constituent
 constituentOf a k = record {
   frequency = sumOfProducts k (a .dd1) (a .dd2) (a .dd3) (a .dd4) (a .dd5) (a .dd6);
-  phase = reduced (sumOfProducts k (a .d1) (a .d2) (a .d3) (a .d4) (a .d5) (a .d6));
+  phase = reduced turn64 (sumOfProducts k (a .d1) (a .d2) (a .d3) (a .d4) (a .d5) (a .d6));
 }
 
 -- a multiplier from -12 to 12

@@ -10,9 +10,9 @@ ghost use Rattle.instants.specs.Limits.{dayMicros};
 ghost use Rattle.utc.specs.Readings.{reading};
 ghost use Rattle.utc.specs.PhaseInstants.{PhaseInstant};
 ghost use Rattle.utc.specs.Inner.{partsOf, Together};
-ghost use Rattle.tide.specs.Binary64.{_⊗_, whole};
+ghost use Rattle.binary64.specs.Words.{_⊗_, whole};
 ghost use Rattle.tide.specs.Delaunay.{horner};
-ghost use Rattle.tide.specs.Tidal.{dayFraction, centuries, argumentsOf, argumentsAt, sumOfProducts, settled, reduced, inRange, allInRange, answerOf, tideOf};
+ghost use Rattle.tide.specs.Tidal.{dayFraction, centuries, argumentsOf, argumentsAt, sumOfProducts, inRange, allInRange, answerOf, tideOf};
 
 // The six multipliers of a constituent.
 pub struct Doodson {
@@ -197,36 +197,16 @@ fn sum_of_products(k: Doodson, x1: f64, x2: f64, x3: f64, x4: f64, x5: f64, x6: 
         + product(k.k6, x6)
 }
 
-// What is not below 360, and a zero of either sign, as +0.
-fn settle(q: f64) -> f64
-    ensures { λ r. ⌜ r ≡ settled q ⌝ }
-{
-    if q < 360.0 {
-        if q == 0.0 { 0.0 } else { q }
-    } else {
-        0.0
-    }
-}
-
-// The phase of a sum of degrees, at least 0 and below 360.
-fn reduce(p: f64) -> f64
-    ensures { λ r. ⌜ r ≡ reduced p ⌝ }
-{
-    let r = p % 360.0;
-    if r < 0.0 {
-        settle(r + 360.0)
-    } else {
-        settle(r)
-    }
-}
-
 // The answer for any multipliers, from arguments at hand.
 fn answer_from(a: Arguments, k: Doodson) -> TideAnswer
     ensures { λ r. ⌜ r ≡ answerOf a k ⌝ }
 {
     if all_in_range(k) {
         let frequency = sum_of_products(k, a.dd1, a.dd2, a.dd3, a.dd4, a.dd5, a.dd6);
-        let phase = reduce(sum_of_products(k, a.d1, a.d2, a.d3, a.d4, a.d5, a.d6));
+        let phase = binary64::reduce(
+            sum_of_products(k, a.d1, a.d2, a.d3, a.d4, a.d5, a.d6),
+            360.0,
+        );
         TideAnswer::Tide(Constituent { frequency, phase })
     } else {
         TideAnswer::NoTide(11)

@@ -3,7 +3,8 @@ use mathlib.Core.Path.{_≡_, sym, subst, _∙_}
 use mathlib.Core.Bool.{true}
 use lib.Dec.{T}
 use borrow.Author.Needs.{needs}
-use Rattle.tide.specs.Tidal.{allInRange, constituentOf, answerOf}
+use lib.Ieee.{ofInt, ofBits}
+use Rattle.tide.specs.Tidal.{turn64, allInRange, constituentOf, answerOf}
 use Rattle.tide.proofs.answer_from.Statement.{statement}
 use Rattle.tide.proofs.answer_from.Tie as tie
 
@@ -24,7 +25,7 @@ reduce-requires : tie.Need-reduce-requires
 reduce-requires c κs = search needs
 
 returns : tie.Need-returns
-unfolding answerOf constituentOf
+unfolding answerOf constituentOf turn64 ofInt ofBits
 returns c =
     let phase = c .before in
     let frequency = phase .before in

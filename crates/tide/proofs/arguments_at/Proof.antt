@@ -18,7 +18,8 @@ use Rattle.utc.specs.declared.PhaseParts.{PhaseParts}
 use Rattle.utc.proofs.PhaseInstants.{together-accepted}
 use Rattle.tide.specs.declared.Arguments.{Arguments}
 use Rattle.tide.specs.Tidal.{dayFraction, centuries, argumentsOf, argumentsAt}
-use Rattle.tide.proofs.Signed.{accepted-size, size-in-float}
+use Rattle.binary64.proofs.Bounded.{size-in-float}
+use Rattle.tide.proofs.Signed.{accepted-size}
 use Rattle.tide.proofs.arguments_at.Statement.{statement}
 use Rattle.tide.proofs.arguments_at.Tie as tie
 

@@ -1,6 +1,6 @@
 -- `tide::arguments_of` meets its contract: the five polynomials are what `quartic` ensures, and the rest is the definition. Assumes nothing.
 use lib.Ieee.{neg, ofInt, ofBits}
-use Rattle.tide.specs.Binary64.{decimal64}
+use Rattle.binary64.specs.Words.{decimal64}
 use Rattle.tide.specs.Delaunay.{F1, F2, F3, F4, F5, FD1, FD2, FD3, FD4, FD5}
 use Rattle.tide.specs.Tidal.{argumentsOf}
 use borrow.Author.Needs.{needs}

@@ -4,7 +4,7 @@ use lib.Dec.{T}
 use lib.IntN.{ℤ}
 use lib.Ieee.{binary64, inFloat, ofInt, ofBits}
 use mir.Facts.{toZ-ofZ}
-use Rattle.tide.specs.Binary64.{decimal64}
+use Rattle.binary64.specs.Words.{decimal64}
 use Rattle.tide.specs.Tidal.{centuries}
 use Rattle.tide.proofs.julian_centuries.Statement.{statement}
 use Rattle.tide.proofs.julian_centuries.Tie as tie

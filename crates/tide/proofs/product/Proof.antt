@@ -2,7 +2,8 @@
 use native.Mathlib.Nat.{le-trans}
 use lib.Dec.{lit≤}
 use mir.Facts.{toZ-ofZ}
-use Rattle.tide.proofs.Signed.{range-size, size-in-float}
+use Rattle.binary64.proofs.Bounded.{size-in-float}
+use Rattle.tide.proofs.Signed.{range-size}
 use Rattle.tide.proofs.product.Statement.{statement}
 use Rattle.tide.proofs.product.Tie as tie
 

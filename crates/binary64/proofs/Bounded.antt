@@ -5,14 +5,15 @@ use Prim.Native.Nat.{ℕ, suc, _+_, _-_, _*_, _^_, _≤_, _<_}
 use native.Mathlib.Nat.{le-trans, le-of-eq, add-le-add, add-mul, mul-one, one-mul, mul-comm, mul-assoc, mul-left-comm, mul-le-mul-right, mul-le-mul, mul-pos}
 use native.Mathlib.Omega.{arith}
 use mathlib.Core.Bool.{Bool, true, false, cond, _&&_, Bool·beq}
-use lib.Dec.{T, ltb, eqb, leb, leb→le, lit<}
+use lib.Dec.{T, ltb, eqb, leb, leb→le, le→leb, lt→ltb, lit<}
 use lib.IntN.{ℤ, pos, negsuc, natAbs}
-use lib.Ieee.{Float, nan, inf, fin, binary64, up, down, unlike, round, neg, add, sub, mul, div, sum, ofInt}
+use lib.Ieee.{Float, nan, inf, fin, binary64, up, down, unlike, round, neg, add, sub, mul, div, sum, ofInt, inFloat}
 use lib.Ieee.Fits.{down-pos}
 use lib.Ieee.Scale.{round-same}
-use Rattle.tide.specs.Binary64.{_⊕_, _⊖_, _⊗_, _⊘_, whole, zero64}
-use Rattle.tide.specs.Claims.{Finite}
-use Rattle.tide.proofs.Rounded.{Within, round-within}
+use lib.Ieee.Back.{round-whole}
+use Rattle.binary64.specs.Words.{_⊕_, _⊖_, _⊗_, _⊘_, whole, zero64}
+use Rattle.binary64.specs.Claims.{Finite}
+use Rattle.binary64.proofs.Rounded.{Within, round-within}
 
 abbrev AtMost : ℕ → Float → Type 0
 AtMost B nan = ⊥
@@ -45,14 +46,20 @@ most-known B (fin s m e) h = leb→le (m * up e) (B * down e) h
 pub known : {B : ℕ} {x : Float} → T (atMost B x) → Bound B x
 known {B} {x} h = record { most = most-known B x h }
 
+-- ---- binary64 holds a whole number up to 2 ^ 53 in size
+pub size-in-float : (z : ℤ) → natAbs z ≤ 2 ^ 53 → T (inFloat binary64 z)
+unfolding inFloat
+size-in-float (pos n) h = le→leb n (2 ^ 53) h
+size-in-float (negsuc n) h = lt→ltb n (2 ^ 53) h
+
 -- ---- what is rounded
-most-of : (B : ℕ) (s : Bool) (x : Float) → Within B s x → AtMost B x
+most-of : (B : ℕ) (s : Bool) (x : Float) → Within B 1 s x → AtMost B x
 most-of B s nan h = h
 most-of B s (inf t) h = h
-most-of B s (fin t m e) h = h .1
+most-of B s (fin t m e) h = le-trans (le-of-eq (sym (mul-one (m * up e)))) (h .1)
 
 rounded : (B : ℕ) (s : Bool) (num den : ℕ) → 0 < den → B ≤ 2 ^ 53 → num ≤ B * den → AtMost B (round binary64 s num den)
-rounded B s num den D k h = most-of B s (round binary64 s num den) (round-within s num den B D k h)
+rounded B s num den D k h = most-of B s (round binary64 s num den) (round-within s num den B 1 D (lit< tt) (round-whole binary64 false B k) (le-trans (le-of-eq (mul-one num)) h))
 
 whole-most : (B : ℕ) (z : ℤ) → B ≤ 2 ^ 53 → natAbs z ≤ B → AtMost B (whole z)
 unfolding ofInt

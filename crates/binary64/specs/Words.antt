@@ -1,5 +1,5 @@
 -- The words for binary64 numbers. Each operation is that of `lib.Ieee`: the binary64 nearest to the exact result.
-use Prim.Native.Nat.{ℕ}
+use Prim.Native.Nat.{ℕ, _^_}
 use mathlib.Core.Bool.{Bool, false, true}
 use lib.IntN.{ℤ, pos}
 use lib.Ieee as Ieee
@@ -28,14 +28,14 @@ whole z = Ieee.ofInt binary64 z
 abbrev pub zero64 : Float
 zero64 = fin false 0 (pos 0)
 
--- A decimal constant of ten places is written with _ for its point: plus 134_9634025100 is the binary64 nearest to 134.9634025100,
--- and minus 0_0000000680 the one nearest to -0.0000000680.
-unfoldable pub decimal64 : Bool → ℕ → Float
+-- A decimal constant: its number of places, then its digits with _ for the point. So plus 10 134_9634025100 is the binary64 nearest to
+-- 134.9634025100, minus 6 0_010325 the one nearest to -0.010325, and 3.03e-4 is plus (2 + 4) 3_03.
+unfoldable pub decimal64 : Bool → (places digits : ℕ) → Float
 unfolding round
-decimal64 negative n = round binary64 negative n 10_000_000_000
+decimal64 negative places digits = round binary64 negative digits (10 ^ places)
 
-abbrev pub plus : ℕ → Float
-plus n = decimal64 false n
+abbrev pub plus : (places digits : ℕ) → Float
+plus places digits = decimal64 false places digits
 
-abbrev pub minus : ℕ → Float
-minus n = decimal64 true n
+abbrev pub minus : (places digits : ℕ) → Float
+minus places digits = decimal64 true places digits

@@ -1,0 +1,3 @@
+-- Days: the sizes of the whole numbers. Sums: no sum passes its bound, so each is finite. Promises: what is promised of the angles.
+-- Published: the case of the source, computed.
+pub mod Days
