@@ -1,8 +1,8 @@
 /*
  * Times the library's calls beside plain C (tests/model*.c, with libm's sine and cosine, plain.h for dates,
- * UTC and phases, plain_rows.h for nutation rows, plain_rescue.h for the rescue of records), and beside ERFA where it
- * is installed (WITH_ERFA), in one process on the same inputs. A row whose ratio is above the most that is allowed for
- * it is marked, and the status is 1.
+ * UTC and phases, plain_rows.h for nutation rows, plain_rescue.h for the rescue of records, plain_angles.h for the
+ * angles of a day), and beside ERFA where it is installed (WITH_ERFA), in one process on the same inputs. A row whose
+ * ratio is above the most that is allowed for it is marked, and the status is 1.
  */
 #define _POSIX_C_SOURCE 199309L
 #include "work.h"
@@ -73,6 +73,7 @@ static struct row {
     {"record written", written, written_plain, 0, 0, 0, 0},
     {"run of 96 records", run_96, run_96_plain, 0, 0, 0, 0},
     {"phase alone, from UTC", phase, phase_plain, 1.3, 0, 0, 0},
+    {"all eleven angles", angles, angles_in_plain, 1.3, 0, 0, 0},
     {"UT1 alone, against three sums", ut1, corrections_plain, 0, 0, 0, 0},
     {"year alone, against a date", year, date_plain, 0, 0, 0, 0},
     {"rescue: 2184 clean records", rescue_clean, rescue_clean_plain, 1.5, CLEAN_BYTES, 0, 0},
@@ -175,6 +176,10 @@ static void make_inputs(void)
         memcpy(reading[i], f, sizeof f);
         model_utc_to_tt(f, &utc_at[i]);
     }
+    for (int i = 0; i < INPUTS; i++) {
+        of_year[i].year = 1974 + next() % 127;
+        of_year[i].day = (double)(1 + next() % 365) + (double)(next() % 86400000000) / 86400e6;
+    }
 }
 
 /* Whether plain.h and the model have the same reading of an instant, and the instant of it. */
@@ -258,6 +263,15 @@ static int same_rescues(void)
     return wrong == 0;
 }
 
+/* Whether plain_angles.h and the library have the same angles to the bit, and the same refusals beside a year's end. */
+static int same_angles(uint64_t year, double day)
+{
+    double x[ENFYS_ANGLES] = {0.0}, y[ENFYS_ANGLES] = {0.0};
+
+    return angles_plain(year, day, x) == enfys_schwiderski(year, day, y) && memcmp(x, y, sizeof x) == 0 &&
+           angles_plain(year, day + 366.0, x) == enfys_schwiderski(year, day + 366.0, y);
+}
+
 /* Whether what is timed answers right: at the inputs, for dates on every day, and for UTC around the steps as well. */
 static int right(void)
 {
@@ -275,6 +289,7 @@ static int right(void)
         wrong += !same_rows(rows_30, sizeof rows_30, i) || !same_rows(rows_200, sizeof rows_200, i);
         wrong += offsets_30(i) != offsets(i);
         wrong += probes(i) != probes_plain(i) || probes_200(i) != probes_200_plain(i);
+        wrong += !same_angles(of_year[i].year, of_year[i].day) || !same_angles(1970 + (uint64_t)i % 140, i % 3 / 2.0);
     }
     for (int i = 0; i < STEPS; i++)
         for (uint64_t micros = 0; micros < 100000000; micros += 500000)

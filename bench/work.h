@@ -5,6 +5,7 @@
 #include "../include/enfysgar.h"
 #include "../tests/model.h"
 #include "plain.h"
+#include "plain_angles.h"
 #include "plain_rows.h"
 #include "work_rescue.h"
 
@@ -21,6 +22,10 @@ static struct instant at[INPUTS], utc_at[INPUTS]; /* the second has those of the
 static struct instant inside[INPUTS], onward[INPUTS];
 static uint64_t reading[INPUTS][7];
 static int64_t multiplier[INPUTS][6];
+static struct {
+    uint64_t year;
+    double day;
+} of_year[INPUTS]; /* days of a year */
 static uint8_t record[INPUTS][30];
 static uint8_t run[96 * 30];
 static uint8_t rows_30[3 + 16 * 30], rows_200[3 + 16 * 200]; /* the built-in rows, and others through the whole range */
@@ -57,6 +62,27 @@ static double phase(int i)
 static double phase_plain(int i)
 {
     return tide_plain_phase(TIDE_OF(i));
+}
+
+/* What gives all angles: the library's call or plain C's. */
+typedef uint32_t angles_call(uint64_t year, double day, double *angles);
+
+__attribute__((always_inline)) static inline double angles_of(angles_call *call, int i)
+{
+    double angle[ENFYS_ANGLES] = {0.0};
+    uint32_t refusal = call(of_year[i].year, of_year[i].day, angle);
+
+    return refusal + angle[0] + angle[ENFYS_ANGLES - 1];
+}
+
+static double angles(int i)
+{
+    return angles_of(enfys_schwiderski, i);
+}
+
+static double angles_in_plain(int i)
+{
+    return angles_of(angles_plain, i);
 }
 
 static double corrections(int i)

@@ -1,9 +1,9 @@
 /*
  * How a daemon uses the library: it reads the two clock words of the unit, notices a torn read,
  * and gives corrections and offsets for that instant, and the phase for its UTC; and the same for UTC
- * times as an operator types them. Where the library has no UTC the unit goes on without a phase. At the
- * end it shows what each refusal means. The clock and the operator here are made up; nothing of this file
- * is part of the proved product.
+ * times as an operator types them. Where the library has no UTC the unit goes on without a phase. Then come
+ * the angles of the ocean tides for one date, and at the end what each refusal means. The clock and the
+ * operator here are made up; nothing of this file is part of the proved product.
  *
  *     cc -O2 -Iinclude examples/daemon.c target/staticlib/libenfysgar.a -lm -o daemon
  *     ./daemon ['2016-12-31 23:59:60.5' ..]
@@ -16,7 +16,7 @@
 
 static const char *const meaning[] = {
     "answered",
-    "year outside 1900..2100",
+    "year outside 1900..2100, for angles 1974..2100",
     "month outside 1..12",
     "no such day in that month",
     "no such hour",
@@ -41,6 +41,7 @@ static const char *const meaning[] = {
     "day of a nutation row out of its limits or not rising",
     "uncertainty or amplitude of a row out of its limits",
     "more than 65536 bytes to rescue records from",
+    "no such day of the year, or not a number",
 };
 
 static const char *text(uint32_t refusal)
@@ -216,6 +217,25 @@ static int serve_typed(const char *text)
     return serve(day, micros);
 }
 
+/*
+ * Schwiderski's angles at a date and a time of day. The days of the year are counted by day numbers; the first begins
+ * with 1.0.
+ */
+static int show_angles(uint64_t year, uint64_t month, uint64_t day_of_month, uint64_t hour, uint64_t minute)
+{
+    static const char *const name[ENFYS_ANGLES] = {"M2", "S2", "N2", "K2", "K1", "O1", "P1", "Q1", "Mf", "Mm", "Ssa"};
+    const int64_t days = enfys_date_to_day(year, month, day_of_month) - enfys_date_to_day(year, 1, 1);
+    const double day = 1.0 + (double)days + (double)(60 * hour + minute) / 1440.0;
+    double angle[ENFYS_ANGLES];
+
+    printf("angles at day %.3f of %" PRIu64 ", in radians\n", day, year);
+    if (refused(enfys_date_refusal(year, month, day_of_month)) || refused(enfys_schwiderski(year, day, angle)))
+        return 1;
+    for (int i = 0; i < ENFYS_ANGLES; i++)
+        printf("  %-3s %.12f%s", name[i], angle[i], i % 4 == 3 || i + 1 == ENFYS_ANGLES ? "\n" : "");
+    return 0;
+}
+
 static void show(uint32_t refusal, const char *call)
 {
     printf("  %2" PRIu32 "  %-54s %s\n", refusal, text(refusal), call);
@@ -258,6 +278,7 @@ static void show_refusals(void)
     damaged[3][29] ^= 1;
     show(enfys_date_refusal(2000, 2, 29), "the date 2000-02-29");
     show(enfys_date_refusal(2101, 1, 1), "the date 2101-01-01");
+    show(enfys_schwiderski_refusal(1973, 1.0), "angles in 1973");
     show(enfys_date_refusal(2000, 13, 1), "the date 2000-13-01");
     show(enfys_date_refusal(2100, 2, 29), "the date 2100-02-29");
     show(enfys_instant_refusal(2000, 1, 1, 24, 0, 0, 0), "24:00:00");
@@ -280,6 +301,7 @@ static void show_refusals(void)
     show_refusals_of_rows();
     show(enfys_rescue_refusal(image, sizeof image, ENFYS_RESCUE_RECORDS_BYTES, ENFYS_RESCUE_RANGES_BYTES),
          "rescuing from 65537 bytes");
+    show(enfys_schwiderski_refusal(2100, 366.0), "angles on day 366 of 2100");
 }
 
 int main(int argc, char **argv)
@@ -310,6 +332,8 @@ int main(int argc, char **argv)
     for (int i = 1; i < argc; i++)
         if (serve_typed(argv[i]) != 0)
             return 1;
+    if (show_angles(2008, 11, 6, 12, 0) != 0)
+        return 1;
     printf("what each refusal means, and a call that gives it\n");
     show_refusals();
     return 0;

@@ -1,7 +1,7 @@
 /*
  * Enfysgar: calendar, clock words, tidal phases, zonal-tide corrections,
- * free-core-nutation offsets, records and their rescue from a bad disk, and UTC to
- * TT and back, for a timing unit.
+ * free-core-nutation offsets, records and their rescue from a bad disk, UTC to TT and
+ * back, and Schwiderski's tidal angles, for a timing unit.
  *
  * Include this header, and link libenfysgar.a and the mathematical library, which
  * has fmod:
@@ -12,8 +12,8 @@
  *
  * A call gives a whole answer: it returns the refusal number and, where that is 0,
  * writes every number of the answer through its pointers (two calls of (g) fill a
- * buffer, and that of (i) two). On a refusal it writes nothing. Each number can be
- * asked for by itself too: see the end of this header.
+ * buffer, and that of (i) two; that of (j) fills an array). On a refusal it writes
+ * nothing. Each number can be asked for by itself too: see the end of this header.
  *
  * A number that is a parameter may have any value; nothing has to be checked first,
  * and what cannot be answered is refused by a number (the table below). Pointers
@@ -21,7 +21,8 @@
  *
  *   - A pointer through which a number is written is not NULL and is aligned for
  *     its type. No two of one call are alike or overlap, nor do they overlap the
- *     bytes that are lent to it. The numbers need no value before the call.
+ *     bytes that are lent to it. The numbers need no value before the call. That of
+ *     (j) points to eleven of them.
  *   - `buffer`, `bytes` and `rows` point to `length` bytes of the caller's memory;
  *     `input`, `records` and `ranges` of (i) to as many as the length behind each
  *     says. With length 0 the pointer is not used, and may be NULL. `records` and
@@ -34,13 +35,14 @@
  * anything but its arguments and what they point to, so any number of threads may
  * call at once.
  *
- * Only the calls of (d) use floating point, and only they depend on the thread's
- * floating-point environment. They need what a C program starts with: binary64
- * rounded to nearest, subnormal numbers not flushed to zero, no floating-point
- * exception trapped, and an exact fmod, as glibc's is. After fesetround(), or where
- * flush-to-zero was switched on (as -ffast-math may do), frequency and phase can
- * have other bits. They may raise the inexact flag. All other calls work in whole
- * numbers and give the same answers in any environment.
+ * Only the calls of (d) and (j) use floating point, and only they depend on the
+ * thread's floating-point environment. They need what a C program starts with:
+ * binary64 rounded to nearest, subnormal numbers not flushed to zero, no
+ * floating-point exception trapped, and an exact fmod, as glibc's is. After
+ * fesetround(), or where flush-to-zero was switched on (as -ffast-math may do),
+ * frequency, phase and angles can have other bits; their refusals stay. They may
+ * raise the inexact flag, and those of (j) the invalid flag too where the day is NaN.
+ * All other calls work in whole numbers and give the same answers in any environment.
  *
  * Words used below
  *
@@ -53,8 +55,8 @@
  *            change.
  *   reading  a date and a time of day in UTC: year, month, day of the month, hour,
  *            minute, second, and microsecond of the second. The calls of (d),
- *            enfys_utc_to_tt and enfys_utc_to_tt_* take one; the time that any
- *            other call takes is TT.
+ *            enfys_utc_to_tt and enfys_utc_to_tt_* take one, those of (j) a day of
+ *            the year in Greenwich time; the time that any other call takes is TT.
  *
  * This software is derived from routines of the IERS Conventions. It is not IERS
  * Conventions software, and is neither distributed nor endorsed by the IERS
@@ -101,7 +103,8 @@ extern "C" {
  */
 enum {
     ENFYS_OK = 0,
-    ENFYS_YEAR = 1,            /* year outside 1900..2100 */
+    ENFYS_YEAR = 1,            /* year outside 1900..2100; in (j) outside
+                                  1974..2100 */
     ENFYS_MONTH = 2,           /* month outside 1..12 */
     ENFYS_DAY_OF_MONTH = 3,    /* day of month outside that month */
     ENFYS_HOUR = 4,            /* hour above 23 */
@@ -132,7 +135,9 @@ enum {
                                   day of the row before */
     ENFYS_ROWS_SIZE = 24,      /* a row's uncertainty outside 1..100000, or XC or XS
                                   outside -100000..100000 */
-    ENFYS_RESCUE_LENGTH = 25   /* input of a rescue longer than 65536 bytes */
+    ENFYS_RESCUE_LENGTH = 25,  /* input of a rescue longer than 65536 bytes */
+    ENFYS_DAY_OF_YEAR = 26     /* day of the year below 1, or 366 or more (367 in a
+                                  leap year), or NaN */
 };
 
 /* First and last accepted day, microseconds in a day, and the sizes of records. */
@@ -155,6 +160,9 @@ enum {
 #define ENFYS_RESCUE_RANGE_BYTES 8
 #define ENFYS_RESCUE_RECORDS_BYTES 65520
 #define ENFYS_RESCUE_RANGES_BYTES 16920
+
+/* How many angles (j) has. */
+#define ENFYS_ANGLES 11
 
 /*
  * UTC days, as day numbers: the first, and that on which the list expires. Either
@@ -420,6 +428,26 @@ uint32_t enfys_rescue(const uint8_t *input, size_t input_length, uint8_t *record
                       size_t records_length, uint8_t *ranges, size_t ranges_length);
 
 /*
+ * (j) The angles of the eleven constituents of Schwiderski's ocean tides, in radians,
+ * each at least +0 and below two-pi, which is 6.283185307179586476925287 rounded to
+ * binary64, and never minus zero. They are written to angles[0] to angles[10] in this
+ * order:
+ *
+ *    M2, S2, N2, K2, K1, O1, P1, Q1, Mf, Mm, Ssa
+ *
+ * `day` is the day of the year with the part of it that has passed, in Greenwich
+ * time: 1.0 is 0 h of 1 January, 32.5 noon of 1 February. `year` has all its digits:
+ * 2008, not 8. Refused, in this order: 1 (year outside 1974..2100), 26 (day below 1,
+ * or not below 366, in a leap year 367; 2100 is none; NaN and infinities as well).
+ *
+ * The angles are fixed to the bit: binary64, each operation rounded once, constants
+ * and order those of the IERS routine ARG2, with year - 1900 for its two digits. In
+ * its test case 08 stands for 2008, but the angles are those that it has for 1908,
+ * which no call gives.
+ */
+uint32_t enfys_schwiderski(uint64_t year, double day, double *angles);
+
+/*
  * Each number by itself
  *
  * Each call below, but for the two that end in `_probes` and those of (i), gives
@@ -559,6 +587,20 @@ uint64_t enfys_rescue_passed(const uint8_t *input, size_t input_length,
                              size_t records_length, size_t ranges_length);
 uint32_t enfys_rescue_refusal(const uint8_t *input, size_t input_length,
                               size_t records_length, size_t ranges_length);
+
+/* (j) The angles, as in enfys_schwiderski. */
+double enfys_schwiderski_m2(uint64_t year, double day);
+double enfys_schwiderski_s2(uint64_t year, double day);
+double enfys_schwiderski_n2(uint64_t year, double day);
+double enfys_schwiderski_k2(uint64_t year, double day);
+double enfys_schwiderski_k1(uint64_t year, double day);
+double enfys_schwiderski_o1(uint64_t year, double day);
+double enfys_schwiderski_p1(uint64_t year, double day);
+double enfys_schwiderski_q1(uint64_t year, double day);
+double enfys_schwiderski_mf(uint64_t year, double day);
+double enfys_schwiderski_mm(uint64_t year, double day);
+double enfys_schwiderski_ssa(uint64_t year, double day);
+uint32_t enfys_schwiderski_refusal(uint64_t year, double day);
 
 #ifdef __cplusplus
 }

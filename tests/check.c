@@ -207,27 +207,48 @@ void lent_free(uint8_t *block, size_t size)
     munmap(block - (pages(size) - size), pages(size) + pages(1));
 }
 
-/* A number is the last bytes of its place; those before it are guards. Behind it nothing is mapped. */
-#define PLACES 7
+/*
+ * A number is the last bytes of its place; those before it are guards. Behind it nothing is mapped. In an array only
+ * the first number has a guard, and only behind the last nothing is mapped.
+ */
+#define PLACES 11
 #define PLACE_BYTES 16
+#define NUMBER_BYTES 8 /* of a number in an array */
 
-static uint8_t *place[PLACES], expected[PLACES][PLACE_BYTES];
+static struct place {
+    uint8_t *start;
+    size_t bytes;
+} apart[PLACES], in_array[PLACES], *place = apart;
+static uint8_t expected[PLACES][PLACE_BYTES];
 char places_got[PLACES * (2 * PLACE_BYTES + 1) + 32], places_expected[sizeof places_got];
 
 void *place_of(int i, size_t size)
 {
-    return place[i] + PLACE_BYTES - size;
+    return place[i].start + place[i].bytes - size;
 }
 
-void fill_places(size_t count)
+/* The places of an array, which are made once, for so many numbers. */
+static void make_array(size_t count)
 {
+    uint8_t *block = lent((count + 1) * NUMBER_BYTES);
+
+    in_array[0] = (struct place){block, PLACE_BYTES};
+    for (size_t i = 1; i < count; i++)
+        in_array[i] = (struct place){block + (i + 1) * NUMBER_BYTES, NUMBER_BYTES};
+}
+
+void fill_places(size_t count, int array)
+{
+    place = array ? in_array : apart;
+    if (array && place[0].start == NULL)
+        make_array(count);
     for (size_t i = 0; i < count; i++) {
         uint64_t x[PLACE_BYTES / 8] = {any(), any()};
 
-        if (place[i] == NULL)
-            place[i] = lent(PLACE_BYTES);
-        memcpy(place[i], x, PLACE_BYTES);
-        memcpy(expected[i], x, PLACE_BYTES);
+        if (place[i].start == NULL)
+            place[i] = (struct place){lent(PLACE_BYTES), PLACE_BYTES};
+        memcpy(place[i].start, x, place[i].bytes);
+        memcpy(expected[i], x, place[i].bytes);
     }
 }
 
@@ -249,10 +270,11 @@ static void expect(const char *call, uint32_t refusal, const struct number *want
         size_t n = i + made(72, call); /* each a place too early */
 
         if (n < written)
-            memcpy(expected[i] + PLACE_BYTES - want[n].size, want[n].at, want[n].size);
+            memcpy(expected[i] + place[i].bytes - want[n].size, want[n].at, want[n].size);
         else if (made(73, call)) /* zeros on a refusal */
-            memset(expected[i] + PLACE_BYTES - want[i].size, 0, want[i].size);
-        expected[i][0] ^= (uint8_t)made(74, call); /* a guard changed */
+            memset(expected[i] + place[i].bytes - want[i].size, 0, want[i].size);
+        if (place[i].bytes > want[i].size)
+            expected[i][0] ^= (uint8_t)made(74, call); /* a guard changed */
     }
 }
 
@@ -262,7 +284,7 @@ static void text_places(char *text, uint32_t refusal, size_t i, const uint8_t *b
     if (i == 0)
         sprintf(text, "%" PRIu32 ", guards and numbers", refusal);
     text += strlen(text);
-    for (size_t n = 0; n < PLACE_BYTES; n++)
+    for (size_t n = 0; n < place[i].bytes; n++)
         text += sprintf(text, n == 0 ? " %02x" : "%02x", bytes[n]);
 }
 
@@ -272,9 +294,9 @@ int whole(const char *call, uint32_t got, uint32_t refusal, const struct number 
 
     expect(call, refusal, want, count);
     for (size_t i = 0; i < count; i++)
-        same = same && memcmp(place[i], expected[i], PLACE_BYTES) == 0;
+        same = same && memcmp(place[i].start, expected[i], place[i].bytes) == 0;
     for (size_t i = 0; i < count && !same; i++) {
-        text_places(places_got, got, i, place[i]);
+        text_places(places_got, got, i, place[i].start);
         text_places(places_expected, refusal, i, expected[i]);
     }
     return same;

@@ -58,6 +58,9 @@ uint64_t bits_of(double x);
  * fills the places with anything, makes the call once, and compares the refusal and every byte of the
  * places: the numbers where the refusal is 0, otherwise what stood there, and the guards. What is
  * expected has planted mistakes (71 to 75 in check.c), each made for the call that `mistake N CALL` names.
+ *
+ * WHOLE_ARRAY is the same for a call that writes numbers of eight bytes to an array, OUT(type, 0), in a test with one
+ * such length: the guard is before the first, the unmapped memory behind the last.
  */
 struct number {
     const void *at;
@@ -65,17 +68,19 @@ struct number {
 };
 #define NUMBER(x) ((struct number){&(x), sizeof(x)})
 #define OUT(type, i) ((type *)place_of(i, sizeof(type)))
-#define WHOLE(call, refusal, want, ...)                               \
+#define WHOLE(...) WHOLE_IN(0, __VA_ARGS__)
+#define WHOLE_ARRAY(...) WHOLE_IN(1, __VA_ARGS__)
+#define WHOLE_IN(array, call, refusal, want, ...)                     \
     do {                                                              \
         const size_t count_ = sizeof(want) / sizeof *(want);          \
-        fill_places(count_);                                          \
+        fill_places(count_, array);                                   \
         uint32_t got_ = (call);                                       \
         calls++;                                                      \
         if (!whole(#call, got_, refusal, want, count_))               \
             differs(#call, places_got, places_expected, __VA_ARGS__); \
     } while (0)
 void *place_of(int i, size_t size);
-void fill_places(size_t count);
+void fill_places(size_t count, int array);
 int whole(const char *call, uint32_t got, uint32_t refusal, const struct number *want, size_t count);
 extern char places_got[], places_expected[];
 

@@ -38,6 +38,7 @@ extern int model_mistake;
 #define MOST_ROWS 200
 #define RESCUE_MOST 65536
 #define RANGE_BYTES 8
+#define ANGLES 11
 
 struct date {
     uint64_t year, month, day;
@@ -115,5 +116,13 @@ struct instant model_run_instant(struct instant start, uint64_t k, uint64_t step
  */
 uint32_t model_rescue(const uint8_t *input, size_t length, uint8_t *records, size_t records_length, uint8_t *ranges,
                       size_t ranges_length, struct rescue *rescue);
+
+/*
+ * Angles of Schwiderski's constituents for any year and day of it; by the formula alone, for a year as an offset from
+ * 1900; and the last step of that, from a sum to an angle below a turn (model_schwiderski.c).
+ */
+uint32_t model_schwiderski(uint64_t any_year, double day, double angle[ANGLES]);
+void model_angles(int64_t offset, double day, double angle[ANGLES]);
+double model_turned(double radians);
 
 #endif

@@ -1,17 +1,19 @@
 /*
- * The floating-point environment: no call but those of service (d) depends on it. Every other number is
- * asked for as the program starts, and again with another rounding direction and subnormal numbers
- * flushed to zero. With mistake 61 the same is expected of the frequency and the phase of service (d),
- * with mistake 62 of its whole answer, which shows that the environment was changed.
+ * The floating-point environment: no call but those of services (d) and (j) depends on it, and of these no
+ * refusal. Every other number is asked for as the program starts, and again with another rounding direction
+ * and subnormal numbers flushed to zero. With mistake 61 the same is expected of the frequency and the phase
+ * of service (d), with mistake 62 of its whole answer, with 63 and 64 of the angles of service (j) and of its
+ * whole answer, which shows that the environment was changed.
  */
 #include "../include/enfysgar.h"
 #include "check.h"
 #include "model.h"
 
 #include <fenv.h>
+#include <string.h>
 #include <xmmintrin.h>
 
-#define NUMBERS 112
+#define NUMBERS 137
 #define FLUSH_TO_ZERO 0x8040u /* of results and of operands */
 
 static const int directions[] = {FE_UPWARD, FE_DOWNWARD, FE_TOWARDZERO};
@@ -77,6 +79,45 @@ static int utc(int64_t day, uint64_t micros, uint64_t year, uint64_t month, uint
     tide[1] = enfys_tide_phase(year, month, date, 23, 59, 59, micros % 1000000, 2, -1, 3, 0, 1, -2);
     for (int k = 0; k < 2; k++)
         number[n++] = MISTAKE(61, 0, bits_of(tide[k]));
+    return n;
+}
+
+static double of_bits(uint64_t bits)
+{
+    double x;
+
+    memcpy(&x, &bits, sizeof x);
+    return x;
+}
+
+/*
+ * The angles of a day of the year, each by itself and by the call that gives all; and the refusal of one whose bits are
+ * those of micros, so that it is subnormal or anything. The first is from 0.5 to 512, made of whole numbers.
+ */
+static int angles(uint64_t year, uint64_t micros, uint64_t *number)
+{
+    const double day = of_bits(0x3fe0000000000000 + micros * 0x9e3779b97f4a7c15 % (UINT64_C(10) << 52));
+    double angle[2 * ENFYS_ANGLES] = {0.0};
+    int n = 0;
+
+    number[n++] = enfys_schwiderski_refusal(year, of_bits(micros));
+    number[n++] = enfys_schwiderski_refusal(year, day);
+    number[n++] = enfys_schwiderski(year, day, angle);
+    angle[11] = enfys_schwiderski_m2(year, day);
+    angle[12] = enfys_schwiderski_s2(year, day);
+    angle[13] = enfys_schwiderski_n2(year, day);
+    angle[14] = enfys_schwiderski_k2(year, day);
+    angle[15] = enfys_schwiderski_k1(year, day);
+    angle[16] = enfys_schwiderski_o1(year, day);
+    angle[17] = enfys_schwiderski_p1(year, day);
+    angle[18] = enfys_schwiderski_q1(year, day);
+    angle[19] = enfys_schwiderski_mf(year, day);
+    angle[20] = enfys_schwiderski_mm(year, day);
+    angle[21] = enfys_schwiderski_ssa(year, day);
+    for (int i = 0; i < ENFYS_ANGLES; i++) {
+        number[n++] = MISTAKE(64, 0, bits_of(angle[i]));
+        number[n++] = MISTAKE(63, 0, bits_of(angle[ENFYS_ANGLES + i]));
+    }
     return n;
 }
 
@@ -147,6 +188,7 @@ static int answers(int64_t day, uint64_t micros, uint64_t number[NUMBERS])
     number[n++] = enfys_record_refusal(run, sizeof run);
     n += rescued(run, sizeof run, number + n);
     n += utc(day, micros, year, month, date, number + n);
+    n += angles(year, micros, number + n);
     return n + whole_answers(day, micros, run, number + n);
 }
 
