@@ -6,6 +6,7 @@ mod nutation_rows_calls;
 mod record_calls;
 mod rescue_calls;
 mod run_calls;
+mod schwiderski_calls;
 mod tide_calls;
 mod utc_calls;
 mod zonal_calls;
