@@ -42,6 +42,7 @@ use Rattle.run.proofs.Records as records
 use Rattle.rescue.specs.Rescue.{keptCount, rangesIn}
 use Rattle.rescue.proofs.Promises.{rescue-refusal, rescue-zeroed, rescue-keeps}
 use Rattle.row_bytes.specs.Form.{bytesCases}
+use Rattle.promises.proofs.Angles.{angles, angles-same, angles-zeroed, angles-kept}
 use Rattle.promises.proofs.Rows.{handed-rows, rows-offsets}
 use Rattle.promises.proofs.Utc.{handed-readings, utc-to-tt, phase, handed-instants, tt-to-utc}
 use Rattle.promises.specs.AnyInput.{Number, AnyInputIsAnswered}
@@ -194,4 +195,8 @@ any-input-is-answered = record {
   rescue = rescue-refusal;
   rescue-zeroed = rescue-zeroed;
   rescue-keeps = rescue-keeps;
+  angles = angles;
+  angles-same = angles-same;
+  angles-zeroed = angles-zeroed;
+  angles-kept = angles-kept;
 }

@@ -51,6 +51,7 @@ use Rattle.instants.proofs.LaterInstants.{later-by}
 use Rattle.promises.specs.AnyInput.{daysWithSecond60}
 use Rattle.promises.proofs.Utc.{eves}
 use Rattle.promises.proofs.Rescued.{rescued-exactly}
+use Rattle.promises.proofs.Angles.{angles-exactly}
 use Rattle.promises.specs.Exactness.{KeepsRules, Exactness}
 
 -- ---- some readings and instants, computed
@@ -159,4 +160,5 @@ exactness = record {
   first-and-last = (reading-there-and-back _ _ (readings .2), reading-there-and-back _ _ (readings .3));
   before-and-after = before-and-after;
   rescued = rescued-exactly;
+  angles = angles-exactly;
 }

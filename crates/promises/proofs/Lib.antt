@@ -1,7 +1,8 @@
--- AnyInput, Exactness, Distance: a proof of each demand, from the theorems of the services; Rescued is the part of Exactness on service (i). Utc and
+-- AnyInput, Exactness, Distance: a proof of each demand, from the theorems of the services; Rescued and Angles are the parts of Exactness on services (i) and (j). Utc and
 -- Rows: refusals in the figures of AnyInput.
 pub mod Utc
 pub mod Rows
+pub mod Angles
 pub mod AnyInput
 pub mod Rescued
 pub mod Exactness

@@ -22,7 +22,12 @@ use Rattle.utc.specs.Conversions as utc
 use Rattle.utc.specs.Conversions.{ttOf}
 use Rattle.utc.specs.declared.Reading.{Reading}
 use Rattle.clock.specs.Words.{mark, splitOf, joinOf, dayWordOf, dayWordOr, timeWordOf, timeWordOr, splitRefusalOf, joinedDayOf, joinedDayOr, joinedMicrosOf, joinedMicrosOr, joinRefusalOf}
-use Rattle.binary64.specs.Words.{zero64}
+use lib.Ieee as Ieee
+use lib.Ieee.{Float}
+use Rattle.binary64.specs.Words.{whole, zero64}
+use Rattle.schwiderski.specs.Service.{schwiderskiOf, anglesOr, angleOf, anglesRefusalOf}
+use Rattle.schwiderski.specs.declared.Angles.{Angles}
+use Rattle.schwiderski.specs.declared.AnglesAnswer.{AnglesAnswer}
 use Rattle.tide.specs.Tidal as tide
 use Rattle.tide.specs.declared.Doodson.{Doodson}
 use Rattle.zonal.specs.Ours as zonal
@@ -202,6 +207,14 @@ refusal25 s = case 25 (ltb 65536 (length s))
 abbrev pub refusal12-two : (n needed m needed′ : ℕ) → Case
 refusal12-two n needed m needed′ = case 12 (ltb n needed || ltb m needed′)
 
+-- the year of an angle
+abbrev pub refusal1-angles : ℕ → Case
+refusal1-angles y = case 1 (ltb y 1974 || ltb 2100 y)
+
+-- a day of one of these years that is not at least 1 and below 366, or below 367 in every fourth of them but 2100
+abbrev pub refusal26 : ℕ → Float → Case
+refusal26 y d = case 26 (not (Ieee.le (whole (pos 1)) d && Ieee.lt d (whole (pos (cond (eqb (y % 4) 0 && not (eqb y 2100)) 367 366)))))
+
 -- ---- the demand: each service by its list, its numbers, bytes that stay
 
 -- One number of the answer a: `value a` is what its own call gives, and `left old a` what the call of the whole answer leaves where `old` stood.
@@ -211,6 +224,13 @@ pub record Number {A B : Type 0} (refusal : A → ℕ) (value : A → B) (left :
   -- beside a refusal its own call gives 0, and what stood there stays
   pub zeroed : (refusal a ≡ 0 → ⊥) → value a ≡ zero
   pub kept : (refusal a ≡ 0 → ⊥) → (old : B) → left old a ≡ old
+
+-- what the eleven calls of one angle give, in the order of the whole answer
+abbrev pub eleven : AnglesAnswer → List Float
+eleven a =
+    angleOf (λ (b : Angles). b .m2) a ∷ angleOf (λ (b : Angles). b .s2) a ∷ angleOf (λ (b : Angles). b .n2) a ∷ angleOf (λ (b : Angles). b .k2) a
+    ∷ angleOf (λ (b : Angles). b .k1) a ∷ angleOf (λ (b : Angles). b .o1) a ∷ angleOf (λ (b : Angles). b .p1) a ∷ angleOf (λ (b : Angles). b .q1) a
+    ∷ angleOf (λ (b : Angles). b .mf) a ∷ angleOf (λ (b : Angles). b .mm) a ∷ angleOf (λ (b : Angles). b .ssa) a ∷ []
 
 pub record AnyInputIsAnswered : Type 0 where
   -- (a) dates and day numbers
@@ -291,3 +311,9 @@ pub record AnyInputIsAnswered : Type 0 where
       → (keptOf (rescueOf s n m) ≡ 0) × (rangesNumberOf (rescueOf s n m) ≡ 0) × (passedOf (rescueOf s n m) ≡ 0)
   pub rescue-keeps : (s records list : List ℕ) → (rescueRefusalOf (rescueOf s (length records) (length list)) ≡ 0 → ⊥)
       → (recordsAfter s (length list) records ≡ records) × (listAfter s (length records) list ≡ list)
+  -- (j) angles: without a refusal the whole answer leaves the eleven that their own calls give, whatever stood there; beside one each call of one gives +0,
+  -- and the eleven that stood there stay
+  pub angles : (y : ℕ) (d : Float) → anglesRefusalOf (schwiderskiOf y d) ≡ firstRefusal (refusal1-angles y ∷ refusal26 y d ∷ [])
+  pub angles-same : (y : ℕ) (d : Float) → anglesRefusalOf (schwiderskiOf y d) ≡ 0 → (old : List Float) → anglesOr old (schwiderskiOf y d) ≡ eleven (schwiderskiOf y d)
+  pub angles-zeroed : (y : ℕ) (d : Float) → (anglesRefusalOf (schwiderskiOf y d) ≡ 0 → ⊥) → (which : Angles → Float) → angleOf which (schwiderskiOf y d) ≡ zero64
+  pub angles-kept : (y : ℕ) (d : Float) → (anglesRefusalOf (schwiderskiOf y d) ≡ 0 → ⊥) → (old : List Float) → anglesOr old (schwiderskiOf y d) ≡ old

@@ -30,6 +30,7 @@ use Rattle.utc.specs.declared.Reading.{Reading}
 use Rattle.utc.specs.declared.ReadingAnswer.the-variants.{AtReading, NoReading}
 use Rattle.promises.specs.AnyInput.{daysWithSecond60}
 use Rattle.promises.specs.Rescued.{RescuedExactly}
+use Rattle.promises.specs.Angles.{AnglesExactly}
 use Rattle.clock.specs.Words.{words, timeWord, splitOf, joinOf}
 use Rattle.clock.specs.declared.SplitAnswer.the-variants.{Split}
 use Rattle.clock.specs.declared.JoinAnswer.the-variants.{Joined, NoJoin}
@@ -176,3 +177,5 @@ pub record Exactness : Type 0 where
   pub before-and-after : (utcOf (pos 41317) 42_183_999 ≡ NoReading 19) × (utcOf (pos 60854) 69_184_000 ≡ NoReading 20)
   -- (i) records are rescued exactly (Rescued.antt)
   pub rescued : RescuedExactly
+  -- (j) angles (Angles.antt)
+  pub angles : AnglesExactly

@@ -1,28 +1,31 @@
 -- A day of the year from 1 on and below 367 is finite and above 0, its whole part is at most 366, and the count of days stays small: so the machine
 -- holds each whole number, and binary64 does. Assumes nothing.
-use mathlib.Core.Path.{_≡_, refl, ap}
+use mathlib.Core.Path.{refl}
 use mathlib.Core.Bool.{Bool, true, false, cond, _||_}
-use Prim.Native.Nat.{ℕ, suc, _+_, _-_, _*_, _/_, _^_, min, _≤_, _<_}
-use native.Mathlib.Nat.{le-trans, le-of-eq, le-of-lt, div-le-self, div-lt-iff-lt-mul, min-le-left}
+use Prim.Native.Nat.{ℕ, suc, _+_, _-_, _*_, _/_, _^_, _≤_, _<_}
+use native.Mathlib.Nat.{le-trans, lt-of-le-of-lt, div-lt-iff-lt-mul, min-le-left}
 use native.Mathlib.Omega.{arith}
-use borrow.Author.Tests.{ltb-true}
-use lib.Dec.{T, ltb, leb, lt→ltb, ltb→lt, lit<, lit≤}
-use lib.IntN.{ℤ, pos, negsuc, negℤ, _+ℤ_, _-ℤ_, _*ℤ_, natAbs}
-use lib.Signed.{quotZ}
+use lib.Dec.{T, ltb, leb, leb→le, lt→ltb, ltb→lt, lit<, lit≤}
+use lib.IntN.{ℤ, pos, negsuc, _+ℤ_, _-ℤ_, _*ℤ_, natAbs}
 use lib.Ieee.{Float, nan, inf, fin, up, down, lt, le, eq, ofInt, round, toUnsigned}
 use lib.Ieee.Fits.{down-pos}
 use lib.Ieee.Positive.{positive, between}
-use Rattle.algebra.proofs.Order.{abs-neg}
+use mir.Syntax.{w64}
+use mir.Val.{toZ}
+use mir.Facts.{toZ-pos}
+use Rattle.algebra.proofs.Bits.{InBits}
 use Rattle.algebra.proofs.Near.{abs-sum, abs-prod}
 use Rattle.calendar.specs.Dates.{leapYear, monthLengths, sum, yearLength}
+use Rattle.calendar.proofs.Below.{allBelow, below}
 use Rattle.binary64.specs.Words.{whole}
-use Rattle.schwiderski.specs.Formula.{wholeDay, dayCount}
+use Rattle.binary64.proofs.Bounded.{Bound}
+use Rattle.schwiderski.specs.Formula.{wholeDay, leapDays, dayCount}
 
 -- ---- the day of the year
 or-left : (a b : Bool) → T a → T (a || b)
 or-left true b h = tt
 
-finite-day : (x : Float) → T (le (whole (pos 1)) x) → T (lt x (whole (pos 367))) → T (positive x)
+pub finite-day : (x : Float) → T (le (whole (pos 1)) x) → T (lt x (whole (pos 367))) → T (positive x)
 unfolding ofInt round
 finite-day x h k = between (whole (pos 1)) x (whole (pos 367)) tt tt h (unfold le in or-left (lt x (whole (pos 367))) (eq x (whole (pos 367))) k)
 
@@ -50,6 +53,16 @@ day-of (fin false m e) p h =
 pub day : (x : Float) → T (le (whole (pos 1)) x) → T (lt x (whole (pos 367))) → Day x
 day x h k = day-of x (finite-day x h k) k
 
+bound-of : (x : Float) → T (positive x) → T (lt x (whole (pos 367))) → Bound 367 x
+unfolding lt ofInt round
+bound-of nan p h = absurd p
+bound-of (inf s) p h = absurd p
+bound-of (fin true m e) p h = absurd p
+bound-of (fin false m e) p h = record { most = let l = ltb→lt (m * up e * 1) (367 * down e) h in omega (arith, l) }
+
+pub day-bound : (x : Float) → T (le (whole (pos 1)) x) → T (lt x (whole (pos 367))) → Bound 367 x
+day-bound x h k = bound-of x (finite-day x h k) k
+
 -- a day within any year is below 367
 later : (x : Float) → T (lt x (whole (pos 366))) → T (lt x (whole (pos 367)))
 unfolding lt ofInt round
@@ -68,6 +81,12 @@ year-end y x = go (leapYear y)
     go false h = later x h
 
 -- ---- the count of days
+
+-- a number that comes in
+pub came-in : (n b : ℕ) → n ≤ b → b < 2 ^ 63 → InBits (toZ w64 n) (pos n) b
+came-in n b h k = record { is = toZ-pos w64 (lt-of-le-of-lt h k); most = h; room = k }
+
+-- less a constant
 pub less-size : (y k b : ℕ) → y ≤ b → k < b → natAbs (pos y -ℤ pos (suc k)) ≤ b
 less-size y k b h i = by (ltb y (suc k))
   where
@@ -75,16 +94,24 @@ less-size y k b h i = by (ltb y (suc k))
     by true = omega arith
     by false = omega arith
 
-pub quotient-size : (z : ℤ) (b : ℕ) → natAbs z ≤ b → natAbs (quotZ z (pos 4)) ≤ b
-quotient-size (pos a) b h = le-trans (div-le-self a 4) h
-quotient-size (negsuc a) b h = le-trans (le-of-eq (abs-neg (pos (suc a / 4)))) (le-trans (div-le-self (suc a) 4) h)
+-- the leap days, computed for every year of the formula
+few : ℕ → Bool
+unfolding leapDays
+few y = leb (natAbs (leapDays y)) 50
 
--- at most 73,566 in size
-pub count-size : (y d : ℕ) → y ≤ 200 → d ≤ 366 → natAbs (dayCount y d) ≤ 366 + 365 * 200 + 200
+all-few : T (allBelow few 201)
+unfolding few leapDays
+all-few = tt
+
+pub leap-days-size : (y : ℕ) → y ≤ 200 → natAbs (leapDays y) ≤ 50
+unfolding few
+leap-days-size y h = leb→le (natAbs (leapDays y)) 50 (below few 201 all-few y (omega (arith, h)))
+
+-- at most 73,416 in size
+pub count-size : (y d : ℕ) → y ≤ 200 → d ≤ 366 → natAbs (dayCount y d) ≤ 366 + 365 * 200 + 50
 unfolding dayCount
 count-size y d h k =
     let years = pos 365 *ℤ (pos y -ℤ pos 75) in
-    let leap-days = quotZ (pos y -ℤ pos 73) (pos 4) in
-    abs-sum (pos d +ℤ years) leap-days refl
+    abs-sum (pos d +ℤ years) (leapDays y) refl
     (abs-sum (pos d) years refl k (abs-prod (pos 365) (pos y -ℤ pos 75) {a = 365} (lit≤ tt) (less-size y 74 200 h (lit< tt))))
-    (quotient-size (pos y -ℤ pos 73) 200 (less-size y 72 200 h (lit< tt)))
+    (leap-days-size y h)

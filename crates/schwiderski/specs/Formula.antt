@@ -25,9 +25,13 @@ wholeDay day = Ieee.toUnsigned 64 day
 unfoldable pub seconds : Float → Float
 seconds day = (day ⊖ whole (pos (wholeDay day))) ⊗ whole (pos 86400)
 
--- ICAPD: the days from the last of 1974 on; the quotient is cut toward zero
+-- the leap days in ICAPD: a quotient that is cut toward zero
+unfoldable pub leapDays : ℕ → ℤ
+leapDays y = quotZ (pos y -ℤ pos 73) (pos 4)
+
+-- ICAPD: the days from the last of 1974 on
 unfoldable pub dayCount : (y d : ℕ) → ℤ
-dayCount y d = pos d +ℤ pos 365 *ℤ (pos y -ℤ pos 75) +ℤ quotZ (pos y -ℤ pos 73) (pos 4)
+dayCount y d = pos d +ℤ pos 365 *ℤ (pos y -ℤ pos 75) +ℤ leapDays y
 
 -- CAPT: Julian centuries from noon of 1899-12-31
 unfoldable pub centuries : ℤ → Float
@@ -52,30 +56,42 @@ longitudes y day =
     let t = centuries (dayCount y (wholeDay day)) in
     record { seconds = seconds day; sun = sun t; moon = moon t; perigee = perigee t }
 
--- an angle before it is reduced, from its SPEED in radians a second and its four factors of ANGFAC
+-- ANGLE before it is reduced, from SPEED in radians a second and the four factors of ANGFAC
 unfoldable pub angleSum : Longitudes → (speed h s p turns : Float) → Float
 angleSum l speed h s p turns = speed ⊗ l .seconds ⊕ h ⊗ l .sun ⊕ s ⊗ l .moon ⊕ p ⊗ l .perigee ⊕ turns ⊗ twoPi
 
--- reduced by two-pi
-unfoldable pub angle : Longitudes → (speed h s p turns : Float) → Float
-angle l speed h s p turns = reduced twoPi (angleSum l speed h s p turns)
-
 -- all eleven
-unfoldable pub anglesFrom : Longitudes → Angles
-anglesFrom l = record {
-  m2 = angle l (plus (5 + 4) 1_40519) (plus 0 2) (minus 0 2) (plus 0 0) (plus 0 0);
-  s2 = angle l (plus (5 + 4) 1_45444) (plus 0 0) (plus 0 0) (plus 0 0) (plus 0 0);
-  n2 = angle l (plus (5 + 4) 1_37880) (plus 0 2) (minus 0 3) (plus 0 1) (plus 0 0);
-  k2 = angle l (plus (5 + 4) 1_45842) (plus 0 2) (plus 0 0) (plus 0 0) (plus 0 0);
-  k1 = angle l (plus (5 + 4) 0_72921) (plus 0 1) (plus 0 0) (plus 0 0) (plus 2 0_25);
-  o1 = angle l (plus (5 + 4) 0_67598) (plus 0 1) (minus 0 2) (plus 0 0) (minus 2 0_25);
-  p1 = angle l (plus (5 + 4) 0_72523) (minus 0 1) (plus 0 0) (plus 0 0) (minus 2 0_25);
-  q1 = angle l (plus (5 + 4) 0_64959) (plus 0 1) (minus 0 3) (plus 0 1) (minus 2 0_25);
-  mf = angle l (plus (6 + 4) 0_053234) (plus 0 0) (plus 0 2) (plus 0 0) (plus 0 0);
-  mm = angle l (plus (6 + 4) 0_026392) (plus 0 0) (plus 0 1) (minus 0 1) (plus 0 0);
-  ssa = angle l (plus (6 + 4) 0_003982) (plus 0 2) (plus 0 0) (plus 0 0) (plus 0 0);
+unfoldable pub sums : Longitudes → Angles
+sums l = record {
+  m2 = angleSum l (plus (5 + 4) 1_40519) (plus 0 2) (minus 0 2) (plus 0 0) (plus 0 0);
+  s2 = angleSum l (plus (5 + 4) 1_45444) (plus 0 0) (plus 0 0) (plus 0 0) (plus 0 0);
+  n2 = angleSum l (plus (5 + 4) 1_37880) (plus 0 2) (minus 0 3) (plus 0 1) (plus 0 0);
+  k2 = angleSum l (plus (5 + 4) 1_45842) (plus 0 2) (plus 0 0) (plus 0 0) (plus 0 0);
+  k1 = angleSum l (plus (5 + 4) 0_72921) (plus 0 1) (plus 0 0) (plus 0 0) (plus 2 0_25);
+  o1 = angleSum l (plus (5 + 4) 0_67598) (plus 0 1) (minus 0 2) (plus 0 0) (minus 2 0_25);
+  p1 = angleSum l (plus (5 + 4) 0_72523) (minus 0 1) (plus 0 0) (plus 0 0) (minus 2 0_25);
+  q1 = angleSum l (plus (5 + 4) 0_64959) (plus 0 1) (minus 0 3) (plus 0 1) (minus 2 0_25);
+  mf = angleSum l (plus (6 + 4) 0_053234) (plus 0 0) (plus 0 2) (plus 0 0) (plus 0 0);
+  mm = angleSum l (plus (6 + 4) 0_026392) (plus 0 0) (plus 0 1) (minus 0 1) (plus 0 0);
+  ssa = angleSum l (plus (6 + 4) 0_003982) (plus 0 2) (plus 0 0) (plus 0 0) (plus 0 0);
 }
 
--- the formula: the eleven angles of the day of the year 1900 + y
+-- each reduced by two-pi
+unfoldable pub reducedEach : Angles → Angles
+reducedEach a = record {
+  m2 = reduced twoPi (a .m2);
+  s2 = reduced twoPi (a .s2);
+  n2 = reduced twoPi (a .n2);
+  k2 = reduced twoPi (a .k2);
+  k1 = reduced twoPi (a .k1);
+  o1 = reduced twoPi (a .o1);
+  p1 = reduced twoPi (a .p1);
+  q1 = reduced twoPi (a .q1);
+  mf = reduced twoPi (a .mf);
+  mm = reduced twoPi (a .mm);
+  ssa = reduced twoPi (a .ssa);
+}
+
+-- the formula: the eleven angles at a day of the year 1900 + y
 unfoldable pub anglesOf : (y : ℕ) (day : Float) → Angles
-anglesOf y day = anglesFrom (longitudes y day)
+anglesOf y day = reducedEach (sums (longitudes y day))

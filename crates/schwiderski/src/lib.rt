@@ -7,7 +7,8 @@ ghost use lib.Dec.{T};
 ghost use lib.IntN.{pos};
 ghost use lib.Ieee as Ieee;
 ghost use Rattle.binary64.specs.Words.{whole};
-ghost use Rattle.schwiderski.specs.Formula.{dayCount, longitudes, angle, anglesFrom, anglesOf};
+ghost use Rattle.binary64.specs.Reduction.{reduced};
+ghost use Rattle.schwiderski.specs.Formula.{twoPi, leapDays, dayCount, longitudes, angleSum, sums, reducedEach, anglesOf};
 ghost use Rattle.schwiderski.specs.Service.{schwiderskiOf};
 
 const FIRST_YEAR: u64 = 1974;
@@ -51,14 +52,21 @@ pub enum AnglesAnswer {
     NoAngles(u32),
 }
 
+// The leap days from 1973 on to the year 1900 + y; before, less one for each whole four years.
+fn leap_days(y: u64) -> i64
+    requires { ⌜ y ≤ 200 ⌝ }
+    ensures { λ r. ⌜ r ≡ leapDays y ⌝ }
+{
+    (y as i64 - 73) / 4
+}
+
 // The days from the last of 1974 to the day d of the year 1900 + y.
 fn day_count(y: u64, d: u64) -> i64
     requires year { ⌜ y ≤ 200 ⌝ }
     requires day { ⌜ d ≤ 366 ⌝ }
     ensures { λ r. ⌜ r ≡ dayCount y d ⌝ }
 {
-    let year = y as i64;
-    d as i64 + 365 * (year - 75) + (year - 73) / 4
+    d as i64 + 365 * (y as i64 - 75) + leap_days(y)
 }
 
 // The seconds and the longitudes at a day of the year 1900 + y.
@@ -81,7 +89,7 @@ fn longitudes_of(y: u64, day: f64) -> Longitudes
 
 // The angle of a speed, in radians a second, and of four factors: those of the longitudes and of two-pi.
 fn angle_of(l: Longitudes, speed: f64, h: f64, s: f64, p: f64, turns: f64) -> f64
-    ensures { λ r. ⌜ r ≡ angle l speed h s p turns ⌝ }
+    ensures { λ r. ⌜ r ≡ reduced twoPi (angleSum l speed h s p turns) ⌝ }
 {
     let sum = speed * l.seconds + h * l.sun + s * l.moon + p * l.perigee + turns * TWO_PI;
     binary64::reduce(sum, TWO_PI)
@@ -89,7 +97,7 @@ fn angle_of(l: Longitudes, speed: f64, h: f64, s: f64, p: f64, turns: f64) -> f6
 
 // The eleven angles from what they are made of.
 fn angles_from(l: Longitudes) -> Angles
-    ensures { λ r. ⌜ r ≡ anglesFrom l ⌝ }
+    ensures { λ r. ⌜ r ≡ reducedEach (sums l) ⌝ }
 {
     Angles {
         m2: angle_of(l, 1.40519e-4, 2.0, -2.0, 0.0, 0.0),

@@ -2,7 +2,7 @@
 use lib.Ieee.{ofBits}
 use borrow.Author.Needs.{needs}
 use Rattle.binary64.specs.Words.{decimal64}
-use Rattle.schwiderski.specs.Formula.{twoPi, angleSum, angle}
+use Rattle.schwiderski.specs.Formula.{twoPi, angleSum}
 use Rattle.schwiderski.proofs.angle_of.Statement.{statement}
 use Rattle.schwiderski.proofs.angle_of.Tie as tie
 
@@ -10,7 +10,7 @@ reduce-requires : tie.Need-reduce-requires
 reduce-requires c κs = search needs
 
 returns : tie.Need-returns
-unfolding angle angleSum twoPi decimal64 ofBits
+unfolding angleSum twoPi decimal64 ofBits
 returns c = c .reduce .ensures
 
 pub angle-of-spec : {M : Type 1} → statement M

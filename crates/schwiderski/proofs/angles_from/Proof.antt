@@ -2,13 +2,13 @@
 use lib.Ieee.{neg, ofBits}
 use borrow.Author.Needs.{needs}
 use Rattle.binary64.specs.Words.{decimal64}
-use Rattle.schwiderski.specs.Formula.{anglesFrom}
+use Rattle.schwiderski.specs.Formula.{sums, reducedEach}
 use Rattle.schwiderski.proofs.angles_from.Statement.{statement}
 use Rattle.schwiderski.proofs.angles_from.Tie as tie
 
 -- the calls' equations, from the last place back to the first
 returns : tie.Need-returns
-unfolding anglesFrom decimal64 neg ofBits
+unfolding sums reducedEach decimal64 neg ofBits
 returns c =
     let tenth = c .before in
     let ninth = tenth .before in

@@ -33,11 +33,11 @@ module _ (c : tie.After-truncating-f64-to-u64) where
   id-most = subst (λ (n : ℕ). n ≤ 366) (sym id-is) (of-start (c .before) .most)
 
 module _ (c : tie.After-day-count) where
-  small : natAbs (c .day-count .result) ≤ 366 + 365 * 200 + 200
-  small = subst (λ (z : ℤ). natAbs z ≤ 366 + 365 * 200 + 200) (sym (c .day-count .ensures)) (count-size _ _ (c .before .before .pre .0) (id-most (c .before)))
+  small : natAbs (c .day-count .result) ≤ 366 + 365 * 200 + 50
+  small = subst (λ (z : ℤ). natAbs z ≤ 366 + 365 * 200 + 50) (sym (c .day-count .ensures)) (count-size _ _ (c .before .before .pre .0) (id-most (c .before)))
 
   count-back : readBack (c .day-count .result) ≡ dayCount (c .before .before .args .y) (wholeDay (c .before .before .args .day))
-  count-back = bits-given _ (366 + 365 * 200 + 200) small (lit< tt) .is ∙ c .day-count .ensures ∙ ap (dayCount (c .before .before .args .y)) (id-is (c .before))
+  count-back = bits-given _ (366 + 365 * 200 + 50) small (lit< tt) .is ∙ c .day-count .ensures ∙ ap (dayCount (c .before .before .args .y)) (id-is (c .before))
 
 day-count-requires : tie.Need-day-count-requires
 day-count-requires c κs = (c .before .pre .0, id-most c)
@@ -45,7 +45,7 @@ day-count-requires c κs = (c .before .pre .0, id-most c)
 int-to-float-t : tie.Need-int-to-float-t
 int-to-float-t c =
     let d = c .before in
-    rw (bits-given _ (366 + 365 * 200 + 200) (small d) (lit< tt) .is) (size-in-float (d .day-count .result) (le-trans (small d) (lit≤ tt)))
+    rw (bits-given _ (366 + 365 * 200 + 50) (small d) (lit< tt) .is) (size-in-float (d .day-count .result) (le-trans (small d) (lit≤ tt)))
 
 int-to-float-t6 : tie.Need-int-to-float-t6
 int-to-float-t6 c = let i = c .before .before .before in size-in-float (pos (id i)) (le-trans (id-most i) (lit≤ tt))

@@ -1,6 +1,6 @@
 -- `schwiderski::schwiderski_of` meets its contract, by the two tests of the definition; a year that passes is at most 200 after 1900, and a day that passes
 -- is below 367. Assumes nothing.
-use mathlib.Core.Path.{_≡_, sym, ap, subst}
+use mathlib.Core.Path.{sym, ap, subst}
 use mathlib.Core.Bool.{_&&_}
 use Prim.Native.Nat.{ℕ, _+_, _≤_}
 use native.Mathlib.Omega.{arith}
