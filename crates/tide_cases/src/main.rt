@@ -1,13 +1,18 @@
 // Prints frequencies and phases bit by bit, a line for each case: the refusal number, the bits of
-// the frequency and of the phase. What it must print, in stdout, is the output of an independent
-// implementation of docs/RULES.md.
+// the frequency and of the phase. Then the angles of ARG2's test case beside its own, and eleven
+// angles bit by bit, a line for each case. What it must print, in stdout, is the output of an
+// independent implementation of docs/RULES.md.
 use libc::STDOUT_FILENO;
+use schwiderski::Angles;
+use schwiderski::AnglesAnswer;
 use tide::Doodson;
 use tide::TideAnswer;
 ghost use mathlib.Core.Path.{_≡_};
 ghost use mathlib.Core.Bool.{cond};
 ghost use lib.Ieee as Ieee;
 ghost use lib.Ieee.{binary64};
+ghost use Rattle.binary64.specs.Words.{plus};
+ghost use Rattle.schwiderski.specs.Formula.{anglesOf};
 
 // The bits of x, one pattern for every NaN.
 fn bits(x: f64) -> u64
@@ -58,6 +63,128 @@ fn show(
         TideAnswer::Tide(x) => line(0, x.frequency, x.phase),
         TideAnswer::NoTide(n) => line(n, 0.0, 0.0),
     }
+}
+
+// The bits of an angle, after a blank.
+fn angle(x: f64) {
+    io::write_all(STDOUT_FILENO, b" ");
+    io::print_hex(STDOUT_FILENO, bits(x), 16);
+}
+
+// The bits of the eleven.
+fn eleven(a: Angles) {
+    angle(a.m2);
+    angle(a.s2);
+    angle(a.n2);
+    angle(a.k2);
+    angle(a.k1);
+    angle(a.o1);
+    angle(a.p1);
+    angle(a.q1);
+    angle(a.mf);
+    angle(a.mm);
+    angle(a.ssa);
+}
+
+// The line of a year and a day of the year: the refusal number, and the eleven where it is 0.
+fn show_angles(year: u64, day: f64) {
+    match schwiderski::schwiderski_of(year, day) {
+        AnglesAnswer::AtAngles(a) => {
+            io::print_decimal(STDOUT_FILENO, 0);
+            eleven(a);
+        }
+        AnglesAnswer::NoAngles(n) => {
+            io::print_decimal(STDOUT_FILENO, n as u64);
+        }
+    }
+    io::write_all(STDOUT_FILENO, b"\n");
+}
+
+// An angle beside the published one.
+fn compare(name: &[u8], ours: f64, published: f64) {
+    io::write_all(STDOUT_FILENO, name);
+    angle(ours);
+    let apart = ours - published;
+    if (-1e-7 <= apart) & (apart <= 1e-7) {
+        io::write_all(STDOUT_FILENO, b" within 1e-7 of ARG2's\n");
+    } else {
+        io::write_all(STDOUT_FILENO, b" NOT within 1e-7 of ARG2's\n");
+    }
+}
+
+// ARG2's test case, year 08 and day 311.5, on the formula with 8.
+fn case_angles() -> Angles
+    ensures { λ r. ⌜ r ≡ anglesOf 8 (plus 1 311_5) ⌝ }
+{
+    schwiderski::formula(8, 311.5)
+}
+
+// Its angles beside the published ones.
+fn published_case() {
+    let a = case_angles();
+    compare(b"M2", a.m2, 0.5785483804494191418);
+    compare(b"S2", a.s2, 6.28318080000000023);
+    compare(b"N2", a.n2, 5.897950576134803669);
+    compare(b"K2", a.k2, 1.615958909210931438);
+    compare(b"K1", a.k1, 2.378775781400364053);
+    compare(b"O1", a.o1, 4.482957906228527634);
+    compare(b"P1", a.p1, 3.904405018599632626);
+    compare(b"Q1", a.q1, 3.519174794734325928);
+    compare(b"Mf", a.mf, 1.037427808761705705);
+    compare(b"Mm", a.mm, 0.9637917514941207742);
+    compare(b"Ssa", a.ssa, 1.615972056390525324);
+}
+
+// The cases of the angles, in groups.
+fn angles_cases() {
+    published_case();
+    // The day of that case in 2008, and the years around it.
+    show_angles(2008, 311.5);
+    show_angles(2007, 311.5);
+    show_angles(2009, 311.5);
+    // The first and the last years and days.
+    show_angles(1974, 1.0);
+    show_angles(1974, 1.0000000000000002);
+    show_angles(1974, 365.0);
+    show_angles(1974, 365.99999999999994);
+    show_angles(2100, 1.0);
+    show_angles(2100, 59.5);
+    show_angles(2100, 365.99999999999994);
+    // The last days of leap years.
+    show_angles(1976, 366.0);
+    show_angles(2000, 366.99999999999994);
+    show_angles(2096, 366.99999999999994);
+    // Parts of a day.
+    show_angles(2020, 1.25);
+    show_angles(2020, 32.5);
+    show_angles(2020, 60.000001);
+    show_angles(2021, 123.456789012345);
+    show_angles(2050, 145.63555555555553);
+    // Remainders of minus zero: of M2, N2, O1, P1 and Q1.
+    show_angles(1982, 291.01464958320986);
+    show_angles(1980, 318.0525718132723);
+    show_angles(1979, 198.07416788780444);
+    show_angles(1979, 1.0280169178213445);
+    show_angles(1978, 280.0070584476192);
+    // Refused by 1, whatever the day.
+    show_angles(1973, 1.0);
+    show_angles(2101, 1.0);
+    show_angles(0, 0.0 / 0.0);
+    show_angles(8, 311.5);
+    show_angles(108, 311.5);
+    show_angles(0xffff_ffff_ffff_ffff, 400.0);
+    // Refused by 26.
+    show_angles(2008, 0.0 / 0.0);
+    show_angles(2008, 1.0 / 0.0);
+    show_angles(2008, -1.0 / 0.0);
+    show_angles(2008, 0.9999999999999999);
+    show_angles(2008, 0.0);
+    show_angles(2008, -0.0);
+    show_angles(2008, -311.5);
+    show_angles(2008, 367.0);
+    show_angles(2007, 366.0);
+    show_angles(2100, 366.0);
+    show_angles(2008, 1e300);
 }
 
 // The cases, in groups.
@@ -199,4 +326,5 @@ fn main() {
         0,
         -0x8000_0000_0000_0000,
     );
+    angles_cases();
 }
