@@ -93,9 +93,9 @@ extern "C" {
  * used, since its arguments would be taken for others: compile it anew.
  */
 #define ENFYS_VERSION_MAJOR 2
-#define ENFYS_VERSION_MINOR 3
-#define ENFYS_VERSION_PATCH 1
-#define ENFYS_VERSION_STRING "2.3.1"
+#define ENFYS_VERSION_MINOR 4
+#define ENFYS_VERSION_PATCH 0
+#define ENFYS_VERSION_STRING "2.4.0"
 
 /*
  * Refusal numbers. 0 is success. Where several apply, the first in the order

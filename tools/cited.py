@@ -1,5 +1,5 @@
 #!/usr/bin/env python3
-"""Seven documents (DOCUMENTS) cite only what exists, and all of what they should; links of README.md and docs/ lead somewhere.
+"""Eight documents (DOCUMENTS) cite only what exists, and all of what they should; links of README.md and docs/ lead somewhere.
 
     tools/cited.py [ROOT] [--self-test]
 
@@ -14,8 +14,8 @@ from functools import lru_cache
 from fnmatch import fnmatchcase
 from pathlib import Path
 
-DOCUMENTS = ["PROMISES", "RULES", "DECISIONS", "WRONG_PROGRAMS", "WRONG_ROWS", "WRONG_RESCUE", "WRONG_CALLS"]
-APART = {"WRONG_ROWS": ("rows/", "row_bytes/", "row_places/", "nutation/"), "WRONG_RESCUE": ("rescue/", "rescue_lines/")}
+DOCUMENTS = ["PROMISES", "RULES", "DECISIONS", "WRONG_PROGRAMS", "WRONG_ROWS", "WRONG_RESCUE", "WRONG_TIDES", "WRONG_CALLS"]
+APART = {"WRONG_ROWS": ("rows/", "row_bytes/", "row_places/", "nutation/"), "WRONG_RESCUE": ("rescue/", "rescue_lines/"), "WRONG_TIDES": ("binary64/", "tide/", "schwiderski/")}
 # words in backticks that are no names of ours: keywords, the C library's, the kit's, what the program writes, placeholders
 NO_NAMES = {"requires", "fmod", "must-fail", "RT_JOBS", "refused", "count", "NoX", "_"}
 # folders that are made or installed, and not kept
@@ -253,8 +253,9 @@ def self_test(tree, documents):
         if not set(check(tree, name, document.text[:start] + instead + document.text[end:]).wrong) - set(document.wrong):
             missed.append(f"docs/{name}.md: {words}")
     tree.fields["planted-field"] = tree.promised["planted-promise"] = "planted"
-    tree.edits |= {"planted/edit", "nutation/planted", "rescue/planted"}
-    for name, new in (("PROMISES", "planted-field"), ("PROMISES", "planted-promise"), ("WRONG_PROGRAMS", "planted/edit"), ("WRONG_ROWS", "nutation/planted"), ("WRONG_RESCUE", "rescue/planted")):
+    edits = [("WRONG_PROGRAMS", "planted/edit"), *((name, f"{crates[0]}planted") for name, crates in APART.items())]
+    tree.edits |= {edit for _, edit in edits}
+    for name, new in [("PROMISES", "planted-field"), ("PROMISES", "planted-promise"), *edits]:
         planted.append(new)
         if not any(new in words for words in check(tree, name, documents[name].text).wrong):
             missed.append(f"docs/{name}.md: {new}, not cited")

@@ -18,7 +18,7 @@ from pathlib import Path
 ROOT = Path(__file__).resolve().parent.parent
 FILES = ["README.md", "CONTRIBUTING.md", "NOTICE", "docs/*.md", "include/*.h", "packaging/*", "tests/*", "examples/*", "bench/*",
          "crates/*/src/*.rt", "crates/*/specs/*.antt", "crates/**/proofs/**/*.antt", "crates/*/must-fail/*.edit", "crates/*/stdout"]
-HISTORY = {"LANDINGS.md", "LANDINGS_1_TO_4.md"}
+HISTORY = {"LANDINGS.md", "LANDINGS_1_TO_4.md", "LANDINGS_5_TO_8.md"}
 SINE, ARGUMENTS, ZONAL, NUTATION = "crates/sine/", "crates/arguments/", "crates/zonal/", "crates/nutation/"
 FACTORS = {"UT1, ns": (10, 0), "length of day, ps": (1000, 2), "rate, 10^-20 rad/s": (100, 4)}  # the factor, and the first of the two columns
 

@@ -52,7 +52,7 @@ pub enum AnglesAnswer {
     NoAngles(u32),
 }
 
-// The leap days from 1973 on to the year 1900 + y; before, less one for each whole four years.
+// The leap days from 1973 to the beginning of the year 1900 + y; before 1973, minus one for each whole four years.
 fn leap_days(y: u64) -> i64
     requires { ⌜ y ≤ 200 ⌝ }
     ensures { λ r. ⌜ r ≡ leapDays y ⌝ }

@@ -1,4 +1,5 @@
 -- `enfysgar::schwiderski_calls::enfys_schwiderski_o1` meets its contract. Assumes nothing.
+use mathlib.Core.Path.{refl}
 use lib.Ieee.{ofBits}
 use borrow.Author.Needs.{needs}
 use Rattle.enfysgar.proofs.schwiderski_calls.enfys_schwiderski_o1.Statement.{statement}
@@ -9,5 +10,5 @@ unfolding ofBits
 enfys-schwiderski-o1-spec =
     tie.close
     (tie.spec (λ c κs. tt) (λ c. search needs) (λ c. search needs)
-    (λ c. let v = c .before in let s = v .before .before in rw (← s .schwiderski-of .ensures, v .a .given .1) (search needs))
-    (λ c. let s = c .before .before in rw (← s .schwiderski-of .ensures, c .enum-told .given .1) (search needs)))
+    (λ c. let v = c .before in let s = v .before .before in rw (← s .schwiderski-of .ensures, v .a .given .1) refl)
+    (λ c. let s = c .before .before in rw (← s .schwiderski-of .ensures, c .enum-told .given .1) refl))
