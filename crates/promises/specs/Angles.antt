@@ -4,7 +4,7 @@ use Prim.Native.Nat.{ℕ, _+_, _-_, _≤_}
 use mathlib.Core.Path.{_≡_}
 use mathlib.Core.Bool.{false, true}
 use lib.Dec.{T}
-use lib.IntN.{ℤ, pos, negsuc, negℤ, _-ℤ_}
+use lib.IntN.{pos, negsuc, negℤ, _-ℤ_}
 use lib.Ieee.{Float, nan, inf, fin, binary64, rem}
 use Rattle.calendar.specs.Dates.{yearLength, daysOfYears}
 use Rattle.binary64.specs.Words.{zero64, plus}

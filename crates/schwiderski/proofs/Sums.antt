@@ -3,7 +3,7 @@
 -- 71 million. Each bound follows from those before by Bounded's laws. Assumes nothing.
 use mathlib.Core.Path.{refl}
 use Prim.Native.Nat.{ℕ, _≤_}
-use lib.Dec.{T, lit≤, lit<}
+use lib.Dec.{T, lit<}
 use lib.IntN.{ℤ, pos, natAbs}
 use lib.Ieee.{Float, lt, le}
 use Rattle.binary64.specs.Words.{whole, decimal64}
@@ -16,8 +16,8 @@ use Rattle.schwiderski.proofs.Days.{Day, day, day-bound, count-size}
 
 -- ---- the seconds and the centuries
 seconds-bound : (x : Float) → wholeDay x ≤ 366 → Bound 367 x → Bound 63_331_200 (seconds x)
-unfolding seconds
-seconds-bound x h b = multiplied tt (subtracted tt b (number 366 (pos (wholeDay x)) tt h)) (number 86400 (pos 86400) tt (lit≤ tt))
+unfolding seconds decimal64
+seconds-bound x h b = multiplied tt (subtracted tt b (number 366 (pos (wholeDay x)) tt h)) (known {B = 86_400} tt)
 
 centuries-bound : (n : ℤ) → natAbs n ≤ 73_416 → Bound 5 (centuries n)
 unfolding centuries decimal64

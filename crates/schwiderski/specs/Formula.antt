@@ -23,7 +23,7 @@ wholeDay day = Ieee.toUnsigned 64 day
 
 -- FDAY: the seconds of that day
 unfoldable pub seconds : Float → Float
-seconds day = (day ⊖ whole (pos (wholeDay day))) ⊗ whole (pos 86400)
+seconds day = (day ⊖ whole (pos (wholeDay day))) ⊗ plus 0 86400
 
 -- the leap days in ICAPD: a quotient that is cut toward zero
 unfoldable pub leapDays : ℕ → ℤ
