@@ -88,6 +88,14 @@ uint64_t bits_of(double x)
     return bits;
 }
 
+double of_bits(uint64_t bits)
+{
+    double x;
+
+    memcpy(&x, &bits, sizeof x);
+    return x;
+}
+
 /* Splitmix64, from the same seed in every run. */
 uint64_t any(void)
 {

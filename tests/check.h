@@ -25,6 +25,7 @@ const char *text_u64(uint64_t x);
 const char *text_i64(int64_t x);
 const char *text_double(double x);
 uint64_t bits_of(double x);
+double of_bits(uint64_t bits);
 
 /*
  * SAME_..(call, expected, "inputs", ..): makes the call once and compares the answer. The inputs

@@ -10,7 +10,6 @@
 #include "model.h"
 
 #include <fenv.h>
-#include <string.h>
 #include <xmmintrin.h>
 
 #define NUMBERS 137
@@ -80,14 +79,6 @@ static int utc(int64_t day, uint64_t micros, uint64_t year, uint64_t month, uint
     for (int k = 0; k < 2; k++)
         number[n++] = MISTAKE(61, 0, bits_of(tide[k]));
     return n;
-}
-
-static double of_bits(uint64_t bits)
-{
-    double x;
-
-    memcpy(&x, &bits, sizeof x);
-    return x;
 }
 
 /*

@@ -5,7 +5,6 @@
 
 #include <float.h>
 #include <math.h>
-#include <string.h>
 
 #define AT "year %" PRIu64 ", day %.17g (bits %016" PRIx64 ")", year, day, bits_of(day)
 #define NAMED(i) "%s, year %" PRIu64 ", day %.17g (bits %016" PRIx64 ")", one[i].name, year, day, bits_of(day)
@@ -41,14 +40,6 @@ static void angles(uint64_t year, double day)
     for (int i = 0; i < ANGLES; i++)
         if (!(angle[i] >= 0.0 && angle[i] < TWO_PI) || signbit(angle[i]))
             differs(one[i].name, text_double(angle[i]), "at least +0 and below two-pi", NAMED(i));
-}
-
-static double of_bits(uint64_t bits)
-{
-    double x;
-
-    memcpy(&x, &bits, sizeof x);
-    return x;
 }
 
 /* The day `steps` numbers of binary64 from a day that is above 0. */
@@ -175,7 +166,7 @@ static void close_calls(void)
 static void turned(void)
 {
     SAME_BITS(model_turned(-0x1p-51), 0.0, "just below zero");
-    SAME_BITS(model_turned(-DBL_MIN), 0.0, "the least number below zero");
+    SAME_BITS(model_turned(-DBL_TRUE_MIN), 0.0, "the least number below zero");
     SAME_BITS(model_turned(-0x1.8p-51), TWO_PI - 0x1p-50, "below zero, and far enough");
     SAME_BITS(model_turned(-TWO_PI), 0.0, "a turn back");
     SAME_BITS(model_turned(TWO_PI), 0.0, "a turn");

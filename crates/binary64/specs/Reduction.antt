@@ -1,4 +1,5 @@
 -- A number reduced to a range that begins at 0 and ends below a period, in three steps.
+-- Derived from the IERS routines TDFRPH and ARG2; not IERS Conventions software (NOTICE, docs/DIFFERENCES.md).
 use mathlib.Core.Bool.{cond}
 use lib.Ieee as Ieee
 use lib.Ieee.{Float, binary64}

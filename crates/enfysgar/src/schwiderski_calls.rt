@@ -1,4 +1,4 @@
-// The eleven Schwiderski angles at a day of a year.
+// Service (j): the eleven Schwiderski angles at a day of a year.
 use schwiderski::AnglesAnswer;
 ghost use mathlib.Core.Path.{_≡_};
 ghost use Rattle.schwiderski.specs.Service.{schwiderskiOf, anglesOr, angleOf, anglesRefusalOf};

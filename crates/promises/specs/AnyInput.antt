@@ -10,6 +10,8 @@ use mathlib.Core.Bool.{Bool, cond, not, _&&_, _||_}
 use mathlib.Core.List.{List, [], _∷_, _++_}
 use lib.Dec.{ltb, leb, eqb}
 use lib.IntN.{ℤ, pos, negℤ}
+use lib.Ieee as Ieee
+use lib.Ieee.{Float}
 use lib.ListN.{length}
 use lib.Signed.{ltZ, leZ}
 use Rattle.instants.specs.Refusals.{Case, case, firstRefusal}
@@ -22,14 +24,12 @@ use Rattle.utc.specs.Conversions as utc
 use Rattle.utc.specs.Conversions.{ttOf}
 use Rattle.utc.specs.declared.Reading.{Reading}
 use Rattle.clock.specs.Words.{mark, splitOf, joinOf, dayWordOf, dayWordOr, timeWordOf, timeWordOr, splitRefusalOf, joinedDayOf, joinedDayOr, joinedMicrosOf, joinedMicrosOr, joinRefusalOf}
-use lib.Ieee as Ieee
-use lib.Ieee.{Float}
 use Rattle.binary64.specs.Words.{whole, zero64}
+use Rattle.tide.specs.Tidal as tide
+use Rattle.tide.specs.declared.Doodson.{Doodson}
 use Rattle.schwiderski.specs.Service.{schwiderskiOf, anglesOr, angleOf, anglesRefusalOf}
 use Rattle.schwiderski.specs.declared.Angles.{Angles}
 use Rattle.schwiderski.specs.declared.AnglesAnswer.{AnglesAnswer}
-use Rattle.tide.specs.Tidal as tide
-use Rattle.tide.specs.declared.Doodson.{Doodson}
 use Rattle.zonal.specs.Ours as zonal
 use Rattle.row_places.specs.Lookup.{probesOf, probesRowsOf}
 use Rattle.nutation.specs.Ours as nutation

@@ -1,5 +1,5 @@
 -- What is promised of the angles. What is reduced by two-pi is in its range; the two tests of a day say that it is a number from 1 on and below the
--- year's days and 1; and the cases of the refusals say which years and days are answered, with the formula. Assumes nothing.
+-- number of the year's days plus 1; and the cases of the refusals say which years and days are answered, with the formula. Assumes nothing.
 use mathlib.Core.Path.{_≡_, refl, sym, ap, subst, _∙_}
 use mathlib.Core.Bool.{Bool, true, false, not, true≢false}
 use Prim.Native.Nat.{ℕ, _+_, _-_, _*_, _/_, _≤_, _<_}
@@ -138,7 +138,7 @@ spread d z q c = ring (d ▸ z ▸ q ▸ c ▸ end) (search quote depth 13) tt
 gathered : (d n c : ℤ) → (d +ℤ (n +ℤ pos 27375)) -ℤ pos 27375 -ℤ c ≡ (n +ℤ d) -ℤ c
 gathered d n c = ring (d ▸ n ▸ c ▸ end) (search quote depth 13) tt
 
--- from 1974 to 2100 the hundredth years that are no leap years are three more than the four-hundredth, counted from 1600 on
+-- from 1974 to 2100 the hundredth years since 1600 are three more than the four-hundredth ones among them
 hundredths : (k : ℕ) → 374 ≤ k → k ≤ 500 → (k + 99) / 100 ≡ (k + 399) / 400 + 3
 hundredths k h i = by-test (leb k 400) (λ t. early (leb→le k 400 t)) (λ t. late (leb-false k 400 (is-false (leb k 400) t)))
   where

@@ -60,7 +60,7 @@ unfolding angleSum twoPi decimal64
 sum-finite b v h s p q =
     bound-finite (added tt (added tt (added tt (added tt (multiplied tt v (b .seconds)) (multiplied tt h (b .sun))) (multiplied tt s (b .moon))) (multiplied tt p (b .perigee))) (multiplied tt q (known {B = 7} tt)))
 
--- PROMISE. For the years 1900 to 2100 and days from 1 to 367 each of the eleven sums is finite, so what is reduced is a number.
+-- PROMISE. For the years 1900 to 2100 and days from 1 on and below 367 each of the eleven sums is finite, so what is reduced is a number.
 pub sums-finite : (y : ℕ) (x : Float) → y ≤ 200 → T (le (whole (pos 1)) x) → T (lt x (whole (pos 367))) → Every Finite (sums (longitudes y x))
 unfolding sums decimal64
 sums-finite y x k h i =

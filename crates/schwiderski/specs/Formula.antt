@@ -29,7 +29,7 @@ seconds day = (day ⊖ whole (pos (wholeDay day))) ⊗ plus 0 86400
 unfoldable pub leapDays : ℕ → ℤ
 leapDays y = quotZ (pos y -ℤ pos 73) (pos 4)
 
--- ICAPD: the days from the last of 1974 on
+-- ICAPD: the days from the last of 1974 on; before 1973 up to one more
 unfoldable pub dayCount : (y d : ℕ) → ℤ
 dayCount y d = pos d +ℤ pos 365 *ℤ (pos y -ℤ pos 75) +ℤ leapDays y
 

@@ -24,7 +24,7 @@ lastYear = 2100
 abbrev pub formulaYear : ℕ
 formulaYear = 1900
 
--- a day of the year is at least 1 and below the number of its days and 1: no NaN and no infinity is
+-- a day of the year is at least 1 and below the number of its days plus 1: no NaN and no infinity is
 unfoldable pub inYear : (year : ℕ) (day : Float) → Bool
 inYear year day = Ieee.le (whole (pos 1)) day && Ieee.lt day (whole (pos (yearLength year + 1)))
 

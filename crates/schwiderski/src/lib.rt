@@ -1,4 +1,4 @@
-// The eleven Schwiderski angles of a year and a day of the year, in radians.
+// Service (j): the eleven Schwiderski angles at a day of a year, in radians.
 // Derived from the IERS routine ARG2; not IERS Conventions software (NOTICE, docs/DIFFERENCES.md).
 use std::num;
 ghost use mathlib.Core.Path.{_≡_};
@@ -60,7 +60,7 @@ fn leap_days(y: u64) -> i64
     (y as i64 - 73) / 4
 }
 
-// The days from the last of 1974 to the day d of the year 1900 + y.
+// The days from the last of 1974 to the day d of the year 1900 + y; before 1973 up to one more.
 fn day_count(y: u64, d: u64) -> i64
     requires year { ⌜ y ≤ 200 ⌝ }
     requires day { ⌜ d ≤ 366 ⌝ }
@@ -88,7 +88,7 @@ fn longitudes_of(y: u64, day: f64) -> Longitudes
 }
 
 // The angle of a speed, in radians a second, and of four factors: those of the longitudes and of two-pi.
-fn angle_of(l: Longitudes, speed: f64, h: f64, s: f64, p: f64, turns: f64) -> f64
+fn reduced_sum(l: Longitudes, speed: f64, h: f64, s: f64, p: f64, turns: f64) -> f64
     ensures { λ r. ⌜ r ≡ reduced twoPi (angleSum l speed h s p turns) ⌝ }
 {
     let sum = speed * l.seconds + h * l.sun + s * l.moon + p * l.perigee + turns * TWO_PI;
@@ -100,17 +100,17 @@ fn angles_from(l: Longitudes) -> Angles
     ensures { λ r. ⌜ r ≡ reducedEach (sums l) ⌝ }
 {
     Angles {
-        m2: angle_of(l, 1.40519e-4, 2.0, -2.0, 0.0, 0.0),
-        s2: angle_of(l, 1.45444e-4, 0.0, 0.0, 0.0, 0.0),
-        n2: angle_of(l, 1.37880e-4, 2.0, -3.0, 1.0, 0.0),
-        k2: angle_of(l, 1.45842e-4, 2.0, 0.0, 0.0, 0.0),
-        k1: angle_of(l, 0.72921e-4, 1.0, 0.0, 0.0, 0.25),
-        o1: angle_of(l, 0.67598e-4, 1.0, -2.0, 0.0, -0.25),
-        p1: angle_of(l, 0.72523e-4, -1.0, 0.0, 0.0, -0.25),
-        q1: angle_of(l, 0.64959e-4, 1.0, -3.0, 1.0, -0.25),
-        mf: angle_of(l, 0.053234e-4, 0.0, 2.0, 0.0, 0.0),
-        mm: angle_of(l, 0.026392e-4, 0.0, 1.0, -1.0, 0.0),
-        ssa: angle_of(l, 0.003982e-4, 2.0, 0.0, 0.0, 0.0),
+        m2: reduced_sum(l, 1.40519e-4, 2.0, -2.0, 0.0, 0.0),
+        s2: reduced_sum(l, 1.45444e-4, 0.0, 0.0, 0.0, 0.0),
+        n2: reduced_sum(l, 1.37880e-4, 2.0, -3.0, 1.0, 0.0),
+        k2: reduced_sum(l, 1.45842e-4, 2.0, 0.0, 0.0, 0.0),
+        k1: reduced_sum(l, 0.72921e-4, 1.0, 0.0, 0.0, 0.25),
+        o1: reduced_sum(l, 0.67598e-4, 1.0, -2.0, 0.0, -0.25),
+        p1: reduced_sum(l, 0.72523e-4, -1.0, 0.0, 0.0, -0.25),
+        q1: reduced_sum(l, 0.64959e-4, 1.0, -3.0, 1.0, -0.25),
+        mf: reduced_sum(l, 0.053234e-4, 0.0, 2.0, 0.0, 0.0),
+        mm: reduced_sum(l, 0.026392e-4, 0.0, 1.0, -1.0, 0.0),
+        ssa: reduced_sum(l, 0.003982e-4, 2.0, 0.0, 0.0, 0.0),
     }
 }
 

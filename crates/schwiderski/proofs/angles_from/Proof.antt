@@ -21,17 +21,17 @@ returns c =
     let second = third .before in
     let first = second .before in
     rw (
-      c .angle-of11 .ensures,
-      tenth .angle-of10 .ensures,
-      ninth .angle-of9 .ensures,
-      eighth .angle-of8 .ensures,
-      seventh .angle-of7 .ensures,
-      sixth .angle-of6 .ensures,
-      fifth .angle-of5 .ensures,
-      fourth .angle-of4 .ensures,
-      third .angle-of3 .ensures,
-      second .angle-of2 .ensures,
-      first .angle-of .ensures,
+      c .reduced-sum11 .ensures,
+      tenth .reduced-sum10 .ensures,
+      ninth .reduced-sum9 .ensures,
+      eighth .reduced-sum8 .ensures,
+      seventh .reduced-sum7 .ensures,
+      sixth .reduced-sum6 .ensures,
+      fifth .reduced-sum5 .ensures,
+      fourth .reduced-sum4 .ensures,
+      third .reduced-sum3 .ensures,
+      second .reduced-sum2 .ensures,
+      first .reduced-sum .ensures,
     )
 
 pub angles-from-spec : {M : Type 1} → statement M
