@@ -6,7 +6,7 @@ ghost use mathlib.Core.Path.{_≡_};
 ghost use Rattle.clock.specs.Words.{splitOf, joinOf};
 
 // What one mark weighs in a time word: 2^37 microseconds, more than a day has.
-const MARK_UNIT: u64 = 1 << 37;
+pub const MARK_UNIT: u64 = 1 << 37;
 
 // How many marks there are: a day's is its number modulo this.
 const MARKS: u64 = 8;

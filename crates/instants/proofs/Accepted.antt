@@ -44,13 +44,14 @@ both-false true b e = (e, impossible (cc))
 pub between : (x low high : ℕ) → ltb x low || ltb high x ≡ false → (low ≤ x) × (x ≤ high)
 between x low high e = let p = both-false (ltb x low) (ltb high x) e in (ltb-false x low (p .0), ltb-false high x (p .1))
 
-range : (z : ℤ) → outside z ≡ false → DayInRange z
+-- a day number that is not outside, by its index
+pub range : (z : ℤ) → outside z ≡ false → DayInRange z
 unfolding outside
 range z p =
     let q : (ltZ z firstDay ≡ false) × (ltZ lastDay z ≡ false) = both-false (ltZ z firstDay) (ltZ lastDay z) p in
     day-in-range z (q .0) (q .1)
 
-index-of : (z : ℤ) → (b : DayInRange z) → dayIndex z ≡ b .it
+pub index-of : (z : ℤ) → (b : DayInRange z) → dayIndex z ≡ b .it
 unfolding dayIndex
 index-of z b = ap natAbs (b .up)
 

@@ -19,6 +19,11 @@ pub none-both : (cs ds : List Case) → NoneApplies (cs ++ ds) → NoneApplies c
 none-both [] ds h = (tt, h)
 none-both (c ∷ cs) ds h = let r = none-both cs ds (h .1) in ((h .0, r .0), r .1)
 
+-- and the other way round
+pub none-append : (cs ds : List Case) → NoneApplies cs → NoneApplies ds → NoneApplies (cs ++ ds)
+none-append [] ds h k = k
+none-append (c ∷ cs) ds h k = (h .0, none-append cs ds (h .1) k)
+
 -- The case analysis behind the laws below that speak of answers: what holds of two answers at every refusal, and where no case applies.
 pub in-both : {A B : Type 0} (P : A → B → Type 0) (refuse : ℕ → A) (refuse′ : ℕ → B) (cs : List Case) (a : A) (b : B)
     → ((n : ℕ) → P (refuse n) (refuse′ n)) → (NoneApplies cs → P a b) → P (refusedOr refuse cs a) (refusedOr refuse′ cs b)
@@ -53,6 +58,11 @@ module _ {A : Type 0} (refuse : ℕ → A) where
   pub none-answered : (cs : List Case) (a : A) → NoneApplies cs → refusedOr refuse cs a ≡ a
   none-answered [] a h = refl
   none-answered (c ∷ cs) a h = rw (h .0) (none-answered cs a (h .1))
+
+  -- one list behind the other
+  pub refused-append : (cs ds : List Case) (a : A) → refusedOr refuse (cs ++ ds) a ≡ refusedOr refuse cs (refusedOr refuse ds a)
+  refused-append [] ds a = refl
+  refused-append (c ∷ cs) ds a = ap (λ (x : A). cond (c .applies) (refuse (c .number)) x) (refused-append cs ds a)
 
   -- by the number of the first that applies
   pub refused-first : (cs : List Case) (a : A) → (firstRefusal cs ≡ 0 → ⊥) → refusedOr refuse cs a ≡ refuse (firstRefusal cs)

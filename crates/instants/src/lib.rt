@@ -2,7 +2,7 @@
 ghost use mathlib.Core.Path.{_≡_};
 ghost use Prim.Native.Nat.{_<_};
 ghost use Rattle.instants.specs.Limits.{dayMicros, daysCovered};
-ghost use Rattle.instants.specs.Instants.{dayAtIndex, acceptance};
+ghost use Rattle.instants.specs.Instants.{dayAtIndex, acceptance, IsAccepted};
 ghost use Rattle.instants.specs.Moments as moments;
 ghost use Rattle.instants.specs.Inner.{indexLimit, indexAnswer, laterInstant, LaterBounds};
 
@@ -96,4 +96,12 @@ pub fn moment(index: u64, micros: u64) -> u64
     ensures { λ r. ⌜ r ≡ moments.moment index micros ⌝ }
 {
     (index + ORIGIN_DAYS) * DAY_MICROS + HALF_DAY + micros
+}
+
+// The moment of an accepted instant.
+pub fn moment_of(day: i64, micros: u64) -> u64
+    requires { ⌜ IsAccepted day micros ⌝ }
+    ensures { λ r. ⌜ r ≡ moments.momentOf day micros ⌝ }
+{
+    moment((day + SIGNED_OFFSET) as u64, micros)
 }

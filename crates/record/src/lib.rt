@@ -4,9 +4,11 @@ use bigendian::field_at;
 use bigendian::put_field;
 use clock::ClockWords;
 use clock::JoinAnswer;
+use clock::MARK_UNIT;
 use clock::SplitAnswer;
 use instants::Instant;
 ghost use mathlib.Core.Path.{_≡_};
+ghost use mathlib.Core.Bool.{true};
 ghost use mathlib.Core.List.{[], _∷_, _++_};
 ghost use Prim.Native.Nat.{_≤_};
 ghost use lib.IntN.{pos};
@@ -208,4 +210,16 @@ pub fn reads(s: &[u8]) -> bool
         return false;
     }
     reads_behind(s)
+}
+
+// The record that the front of s is, where it is known to read as one.
+pub fn known(s: &[u8]) -> Record
+    requires { ⌜ isRecord (readOf (now s)) ≡ true ⌝ }
+    ensures { λ r. ⌜ ReadAnswer.IsRecord r ≡ readOf (now (s .entry)) ⌝ }
+{
+    let t = Instant {
+        day: field_at(s, DAY_FIELD) as i64,
+        micros: field_at(s, TIME_FIELD) % MARK_UNIT,
+    };
+    record_of(t, s)
 }

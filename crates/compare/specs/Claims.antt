@@ -1,0 +1,1 @@
+-- The words of what is proved of entries (proofs/).

@@ -1,0 +1,1 @@
+-- What only the contracts of the code's own functions cite.

@@ -1,0 +1,117 @@
+-- Which refusal a file has: none exactly when its length is right and it is sound. Where a file is not sound and each record reads, the instants do not
+-- rise. Assumes nothing.
+use Prim.Native.Nat.{ℕ, zero, suc, _+_, _/_, _≤_, _<_}
+use mathlib.Core.Path.{_≡_, refl, ap, ap₂, sym, _∙_}
+use mathlib.Core.Bool.{Bool, true, false, cond, not, _&&_, true≢false}
+use mathlib.Core.List.{List, [], _∷_, _++_}
+use lib.Dec.{ltb}
+use lib.ListN.{length, drop}
+use Rattle.instants.specs.Refusals.{Case, refusedOr, firstRefusal}
+use Rattle.instants.proofs.FirstRefusal.{NoneApplies, none-both, none-append, refused-append, none-answered, refused-first}
+use Rattle.record.specs.declared.Record.{Record}
+use Rattle.record.specs.declared.ReadAnswer.{ReadAnswer}
+use Rattle.record.specs.declared.ReadAnswer.the-variants.{IsRecord, NoRecord}
+use Rattle.record.specs.Format.{recordLength}
+use Rattle.record.specs.Records.{readOf}
+use Rattle.record.proofs.Unrefused.{refusal-numbered}
+use Rattle.files.specs.Files.{answers, answersIn, recordsAmong, when, startsAfter, rises, wrongLength, readingCases, orderCases, fileCases}
+use Rattle.files.specs.Inner.{soundAfter, answersFrom, sound, readingRefusal, fileRefusal}
+use Rattle.files.proofs.Answers.{from-step, from-end}
+use Rattle.files.proofs.Places.{after-zero}
+
+-- ---- reading, one record after the other
+
+module _ (s : List ℕ) (i : ℕ) where
+  pub reading-on : (r : Record) → i + recordLength ≤ length s → readOf (drop i s) ≡ IsRecord r
+      → firstRefusal (readingCases (answersFrom s i)) ≡ firstRefusal (readingCases (answersFrom s (i + recordLength)))
+  reading-on r h e =
+      ap (λ (l : List ReadAnswer). firstRefusal (readingCases l)) (from-step s i h)
+      ∙ ap (λ (x : ReadAnswer). firstRefusal (readingCases (x ∷ answersFrom s (i + recordLength)))) e
+
+  pub reading-stops : (n : ℕ) → i + recordLength ≤ length s → readOf (drop i s) ≡ NoRecord n → firstRefusal (readingCases (answersFrom s i)) ≡ n
+  reading-stops n h e =
+      ap (λ (l : List ReadAnswer). firstRefusal (readingCases l)) (from-step s i h)
+      ∙ ap (λ (x : ReadAnswer). firstRefusal (readingCases (x ∷ answersFrom s (i + recordLength)))) e
+
+  pub reading-ends : length s < i + recordLength → i ≤ length s → firstRefusal (readingCases (answersFrom s i)) ≡ 0
+  reading-ends h k = ap (λ (l : List ReadAnswer). firstRefusal (readingCases l)) (from-end s i h k)
+
+-- ---- sound answers
+
+-- where every answer is a record, they are sound if the records rise
+none-sound : (t : ℕ) (xs : List ReadAnswer) → NoneApplies (readingCases xs) → soundAfter t xs ≡ (startsAfter t (recordsAmong xs) && rises (recordsAmong xs))
+none-sound t [] h = refl
+none-sound t (NoRecord n ∷ xs) h = absurd (true≢false (h .0))
+none-sound t (IsRecord r ∷ xs) h = ap (λ (b : Bool). ltb t (when r) && b) (none-sound (when r) xs (h .1))
+
+-- and where they are sound, every answer is a record
+sound-none : (t : ℕ) (xs : List ReadAnswer) → soundAfter t xs ≡ true → NoneApplies (readingCases xs)
+sound-none t [] e = tt
+sound-none t (NoRecord n ∷ xs) e = absurd (true≢false (sym e))
+sound-none t (IsRecord r ∷ xs) e = (refl, by (ltb t (when r)) e (sound-none (when r) xs))
+  where
+    by : (b : Bool) → (b && soundAfter (when r) xs) ≡ true → (soundAfter (when r) xs ≡ true → NoneApplies (readingCases xs)) → NoneApplies (readingCases xs)
+    by true e f = f e
+    by false e f = absurd (true≢false (sym e))
+
+-- the first record is after 0
+starts-after : (rs : List Record) → startsAfter 0 rs ≡ true
+starts-after [] = refl
+starts-after (r ∷ rs) = after-zero r
+
+risen : (xs : List ReadAnswer) → NoneApplies (readingCases xs) → soundAfter 0 xs ≡ rises (recordsAmong xs)
+risen xs h = none-sound 0 xs h ∙ ap (λ (b : Bool). b && rises (recordsAmong xs)) (starts-after (recordsAmong xs))
+
+-- a first refusal of 0 says that every record reads, since none has the number 0
+all-read : (n : ℕ) (s : List ℕ) → firstRefusal (readingCases (answers n s)) ≡ 0 → NoneApplies (readingCases (answers n s))
+all-read zero s e = tt
+all-read (suc n) s e = by (readOf s) refl e (all-read n (drop recordLength s))
+  where
+    by : (x : ReadAnswer) → readOf s ≡ x → firstRefusal (readingCases (x ∷ answers n (drop recordLength s))) ≡ 0 → (firstRefusal (readingCases (answers n (drop recordLength s))) ≡ 0 → NoneApplies (readingCases (answers n (drop recordLength s))))
+        → NoneApplies (readingCases (x ∷ answers n (drop recordLength s)))
+    by (NoRecord m) p e f = absurd (refusal-numbered s m p e)
+    by (IsRecord r) p e f = (refl, f e)
+
+-- ---- the file
+
+module _ (s : List ℕ) where
+  pub refused-length : wrongLength (length s) ≡ true → 27 ≡ fileRefusal s
+  unfolding fileRefusal fileCases
+  refused-length e = rw e refl
+
+  module _ (h : wrongLength (length s) ≡ false) where
+    -- a sound file of the right length has no refusal
+    pub none-applies : sound s ≡ true → NoneApplies (fileCases s)
+    unfolding sound fileCases
+    none-applies e =
+        let n = sound-none 0 (answersIn s) e in
+        (h, none-append (readingCases (answersIn s)) (orderCases (recordsAmong (answersIn s))) n (ap not (sym (risen (answersIn s) n) ∙ e), tt))
+
+    pub refused-none : sound s ≡ true → 0 ≡ fileRefusal s
+    unfolding fileRefusal
+    refused-none e = sym (none-answered (λ n. n) (fileCases s) 0 (none-applies e))
+
+    behind : fileRefusal s ≡ refusedOr (λ n. n) (readingCases (answersIn s)) (firstRefusal (orderCases (recordsAmong (answersIn s))))
+    unfolding fileRefusal fileCases
+    behind = rw h (refused-append (λ n. n) (readingCases (answersIn s)) (orderCases (recordsAmong (answersIn s))) 0)
+
+    pub refused-reading : (readingRefusal s ≡ 0 → ⊥) → readingRefusal s ≡ fileRefusal s
+    unfolding readingRefusal
+    refused-reading n = sym (behind ∙ refused-first (λ n. n) (readingCases (answersIn s)) _ n)
+
+    pub refused-order : sound s ≡ false → readingRefusal s ≡ 0 → 28 ≡ fileRefusal s
+    unfolding readingRefusal sound answersIn
+    refused-order e z =
+        let n = all-read (length s / recordLength) s z in
+        sym (behind ∙ (none-answered (λ n. n) (readingCases (answersIn s)) _ n ∙ rw (sym (risen (answersIn s) n) ∙ e) refl))
+
+  -- and one without a refusal is such a file
+  pub applies-none : NoneApplies (fileCases s) → (wrongLength (length s) ≡ false) × (sound s ≡ true)
+  unfolding fileCases sound
+  applies-none h =
+      let b = none-both (readingCases (answersIn s)) (orderCases (recordsAmong (answersIn s))) (h .1) in
+      (h .0, risen (answersIn s) (b .0) ∙ right (rises (recordsAmong (answersIn s))) (b .1 .0))
+    where
+      right : (b : Bool) → not b ≡ false → b ≡ true
+      right true e = refl
+      right false e = absurd (true≢false e)
