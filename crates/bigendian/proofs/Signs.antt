@@ -63,10 +63,26 @@ below (negsuc n) f g h =
     let s : SFits w64 (pos (256 ^ 4 - suc n)) = record { sfits = omega arith } in
     record { fits = rw e s; reads = rw e (toZ-ofZ s) }
 
+-- one below 0 in 64 bits: the code takes it from -1, and that from the greatest
+pub record Mirrored (x : ℤ) : Type 0 where
+  pub fits : SFits w64 (negsuc 0 -ℤ toZ w64 (ofZ w64 x))
+  pub reads : toZ w64 (ofZ w64 (negsuc 0 -ℤ toZ w64 (ofZ w64 x))) ≡ pos (mag x)
+  pub small : mag x < 2 ^ 63
+  pub twos : 256 ^ 8 - 1 - mag x ≡ twosComplement 8 x
+
+pub mirrored : (x : ℤ) → SFits w64 x → ltZ x (pos 0) ≡ true → Mirrored x
+mirrored (pos n) g h = let q : n < 0 = ltb-true n 0 h in let v : ⊥ = omega arith in absurd v
+mirrored (negsuc n) g h =
+    let l : n < 2 ^ 63 = g .sfits in
+    let d : suc n - 1 ≡ n = omega arith in
+    let e : negsuc 0 -ℤ toZ w64 (ofZ w64 (negsuc n)) ≡ pos n = ap (λ (z : ℤ). negsuc 0 -ℤ z) (toZ-ofZ g) ∙ simp (le-ltb (suc n) 1 (omega arith)) (ap pos d) in
+    let s : SFits w64 (pos n) = record { sfits = l } in
+    record { fits = rw e s; reads = rw e (toZ-ofZ s); small = l; twos = omega arith }
+
 -- a number that is not below 0
-pub above : (x : ℤ) → SFits w32 x → SFits w64 x → ltZ x (pos 0) ≡ false → toZ w64 (ofZ w64 x) ≡ pos (twosComplement 4 x)
-above (negsuc n) f g h = absurd (true≢false h)
-above (pos n) f g h = toZ-ofZ g
+pub above : (k : ℕ) (x : ℤ) → SFits w64 x → ltZ x (pos 0) ≡ false → toZ w64 (ofZ w64 x) ≡ pos (twosComplement k x)
+above k (negsuc n) g h = absurd (true≢false h)
+above k (pos n) g h = toZ-ofZ g
 
 -- ---- the code, from bits
 

@@ -99,6 +99,16 @@ pub fn twos_complement(x: i64) -> u64
     x as u64
 }
 
+// A number in two's complement of 64 bits.
+pub fn twos_complement_64(x: i64) -> u64
+    ensures { λ r. ⌜ r ≡ twosComplement 8 x ⌝ }
+{
+    if x < 0 {
+        return 0xFFFF_FFFF_FFFF_FFFF - ((-1 - x) as u64);
+    }
+    x as u64
+}
+
 // The number whose two's complement in 32 bits is n.
 pub fn signed_of(n: u64) -> i32
     requires { ⌜ n < 256 ^ 4 ⌝ }

@@ -45,7 +45,7 @@ equal (negsuc m) (pos n) = false
 
 -- all three numbers are
 abbrev pub sameNumbers : Record → Record → Bool
-sameNumbers r q = equal (r .ut1) (q .ut1) && (equal (r .lod) (q .lod) && equal (r .rate) (q .rate))
+sameNumbers r q = (equal (r .ut1) (q .ut1) && equal (r .lod) (q .lod)) && equal (r .rate) (q .rate)
 
 -- what is listed of two records of one instant
 abbrev pub differing : Record → Record → List Entry

@@ -1,12 +1,16 @@
 -- Which refusal a file has: none exactly when its length is right and it is sound. Where a file is not sound and each record reads, the instants do not
 -- rise. Assumes nothing.
-use Prim.Native.Nat.{ℕ, zero, suc, _+_, _/_, _≤_, _<_}
+use Prim.Native.Nat.{ℕ, zero, suc, _+_, _*_, _/_, _%_, _≤_, _<_}
 use mathlib.Core.Path.{_≡_, refl, ap, ap₂, sym, _∙_}
 use mathlib.Core.Bool.{Bool, true, false, cond, not, _&&_, true≢false}
 use mathlib.Core.List.{List, [], _∷_, _++_}
-use lib.Dec.{ltb}
+use native.Mathlib.Omega.{arith}
+use native.Mathlib.Decide.{ℕ-discrete}
+use lib.Dec.{eqb, ltb}
 use lib.ListN.{length, drop}
 use Rattle.instants.specs.Refusals.{Case, refusedOr, firstRefusal}
+use borrow.Author.Tests.{ltb-false}
+use Rattle.instants.proofs.Accepted.{both-false}
 use Rattle.instants.proofs.FirstRefusal.{NoneApplies, none-both, none-append, refused-append, none-answered, refused-first}
 use Rattle.record.specs.declared.Record.{Record}
 use Rattle.record.specs.declared.ReadAnswer.{ReadAnswer}
@@ -14,7 +18,7 @@ use Rattle.record.specs.declared.ReadAnswer.the-variants.{IsRecord, NoRecord}
 use Rattle.record.specs.Format.{recordLength}
 use Rattle.record.specs.Records.{readOf}
 use Rattle.record.proofs.Unrefused.{refusal-numbered}
-use Rattle.files.specs.Files.{answers, answersIn, recordsAmong, when, startsAfter, rises, wrongLength, readingCases, orderCases, fileCases}
+use Rattle.files.specs.Files.{mostBytes, answers, answersIn, recordsAmong, when, startsAfter, rises, wrongLength, readingCases, orderCases, fileCases, FileAnswer, IsFile, NoFile, fileOf}
 use Rattle.files.specs.Inner.{soundAfter, answersFrom, sound, readingRefusal, fileRefusal}
 use Rattle.files.proofs.Answers.{from-step, from-end}
 use Rattle.files.proofs.Places.{after-zero}
@@ -115,3 +119,40 @@ module _ (s : List ℕ) where
       right : (b : Bool) → not b ≡ false → b ≡ true
       right true e = refl
       right false e = absurd (true≢false e)
+
+-- a refusal of 0 says that none applies
+pub unrefused : (s : List ℕ) → fileRefusal s ≡ 0 → NoneApplies (fileCases s)
+unrefused s z = by (wrongLength (length s)) refl (sound s) refl
+  where
+    none : wrongLength (length s) ≡ false → sound s ≡ false → Dec (readingRefusal s ≡ 0) → ⊥
+    none h e (yes r) = absurd (omega (arith, refused-order s h e r ∙ z))
+    none h e (no n) = n (refused-reading s h n ∙ z)
+
+    by : (x : Bool) → wrongLength (length s) ≡ x → (y : Bool) → sound s ≡ y → NoneApplies (fileCases s)
+    by true h y e = absurd (omega (arith, refused-length s h ∙ z))
+    by false h true e = none-applies s h e
+    by false h false e = absurd (none h e (ℕ-discrete (readingRefusal s) 0))
+
+-- ---- its records
+
+-- a file without a refusal is its records
+pub file-is : (s : List ℕ) → NoneApplies (fileCases s) → fileOf s ≡ IsFile (recordsAmong (answersIn s))
+unfolding fileOf
+file-is s h = none-answered NoFile (fileCases s) _ h
+
+few-among : (n : ℕ) (s : List ℕ) → length (recordsAmong (answers n s)) ≤ n
+few-among zero s = omega arith
+few-among (suc n) s = by (readOf s) (few-among n (drop recordLength s))
+  where
+    by : (x : ReadAnswer) → length (recordsAmong (answers n (drop recordLength s))) ≤ n → length (recordsAmong (x ∷ answers n (drop recordLength s))) ≤ suc n
+    by (IsRecord r) h = omega arith
+    by (NoRecord m) h = omega arith
+
+-- at most one for thirty bytes
+pub records-few : (s : List ℕ) → recordLength * length (recordsAmong (answersIn s)) ≤ length s
+unfolding answersIn
+records-few s = omega (arith, few-among (length s / recordLength) s)
+
+-- and so at most 2184 in all
+pub file-short : (s : List ℕ) → NoneApplies (fileCases s) → length s ≤ mostBytes
+file-short s h = ltb-false mostBytes (length s) (both-false (not (eqb (length s % recordLength) 0)) (ltb mostBytes (length s)) (applies-none s h .0) .1)

@@ -1,4 +1,4 @@
--- Bytes that read as a record, with no test left: they are long enough, the record is that of their fields, and its instant is accepted. No refusal of
+-- Bytes that read as a record, with no test left: they are long enough, the record is that of their fields, its instant is accepted, and its day number is small. No refusal of
 -- reading has the number 0. Assumes nothing.
 use Prim.Native.Nat.{ℕ, _%_, _≤_}
 use mathlib.Core.Path.{_≡_, refl, ap, sym, _∙_}
@@ -6,13 +6,15 @@ use mathlib.Core.Bool.{Bool, true, false, true≢false}
 use mathlib.Core.List.{List}
 use lib.IntN.{pos}
 use lib.ListN.{length}
+use mir.Syntax.{w32}
+use mir.Val.{SFits}
 use Rattle.instants.specs.Refusals.{firstRefusal}
 use Rattle.instants.specs.Instants.{instant, IsAccepted}
 use Rattle.instants.proofs.Impossible.{impossible}
 use Rattle.instants.proofs.FirstRefusal.{handed-on, none-answered, first-none}
 use Rattle.instants.proofs.Accepted.{accepted}
 use Rattle.clock.specs.Words.{markUnit, joinCases}
-use Rattle.clock.proofs.Words.{was-split, join-then-split}
+use Rattle.clock.proofs.Words.{was-split, split-accepted, join-then-split}
 use Rattle.bigendian.specs.Fields.{fieldAt}
 use Rattle.record.specs.declared.Record.{Record}
 use Rattle.record.specs.declared.ReadAnswer.{ReadAnswer}
@@ -20,6 +22,7 @@ use Rattle.record.specs.declared.ReadAnswer.the-variants.{IsRecord, NoRe
 use Rattle.record.specs.Format.{recordLength, dayField, timeField}
 use Rattle.record.specs.Records.{readCases, recordOf, readOf, isRecord, readRefusalOf}
 use Rattle.record.proofs.Forms.{WasRead, was-read}
+use Rattle.record.proofs.Written.{day-fits}
 
 -- the record of bytes whose fields are not refused
 abbrev recordThere : List ℕ → Record
@@ -59,3 +62,7 @@ module _ (s : List ℕ) (r : Record) (e : readOf s ≡ IsRecord r) where
   read-accepted =
       let j = was-split _ _ _ (join-then-split _ _ (w .instant) (w .join)) .accepted in
       rw (w .is) (accepted _ _ (j .inside) (j .less))
+
+  -- and its day number fits four bytes
+  pub read-day-fits : SFits w32 (r .day)
+  read-day-fits = day-fits _ _ _ (split-accepted _ _ read-accepted)

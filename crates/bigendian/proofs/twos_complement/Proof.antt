@@ -19,7 +19,7 @@ negative : (c : tie.Then1) → Below (c .before .args .x)
 negative c = let s = c .before in below (s .args .x) (s .pre) (s .fits .x) (rw (toZ-ofZ (s .fits .x)) at (c .if1 .taken))
 
 other : (c : tie.Else1) → toZ w64 (ofZ w64 (c .before .args .x)) ≡ pos (twosComplement 4 (c .before .args .x))
-other c = let s = c .before in above (s .args .x) (s .pre) (s .fits .x) (rw (toZ-ofZ (s .fits .x)) at (c .if1 .left))
+other c = let s = c .before in above 4 (s .args .x) (s .fits .x) (rw (toZ-ofZ (s .fits .x)) at (c .if1 .left))
 
 add-result : tie.Need-add-result
 add-result c = negative c .fits

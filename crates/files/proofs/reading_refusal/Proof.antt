@@ -60,7 +60,7 @@ enum-known-n : tie.Need-enum-known-n Inv-loop μ-loop
 enum-known-n c = search needs
 
 returns : tie.Need-returns Inv-loop μ-loop
-returns c = 
+returns c =
     let r : tie.After-read Inv-loop μ-loop = c .before .before .before in
     let l = r .before .before in
     sym (l .before .loop .inv .1 ∙ reading-stops (bytes l) (place l) _ (room l) (sym (says r) ∙ c .before .n .given .1))
@@ -75,7 +75,7 @@ loop-less : tie.Need-loop-less Inv-loop μ-loop
 loop-less c = omega (arith, room (c .before .before .before .before))
 
 loop-again : tie.Need-loop-again Inv-loop μ-loop
-loop-again c = 
+loop-again c =
     let r : tie.After-read Inv-loop μ-loop = c .before .before in
     let l = r .before .before in
     (room l, l .before .loop .inv .1 ∙ reading-on (bytes l) (place l) _ (room l) (sym (says r) ∙ c .enum-told .given .1))

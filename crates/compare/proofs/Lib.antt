@@ -1,0 +1,8 @@
+-- Numbers: equal numbers and differences, for same_numbers and difference. Walks: a walk, one step on. Steps: where a walk stands and goes on to, for start,
+-- next, listed and count_entries. Entries: the bytes of entries, for entry_bytes and put_here. Writing: the list entry by entry, for fill. Answers: the answer, case by case, for compare_of and compare.
+pub mod Numbers
+pub mod Walks
+pub mod Steps
+pub mod Entries
+pub mod Writing
+pub mod Answers
