@@ -9,7 +9,7 @@
 
 #include <string.h>
 
-#define LONGEST (3 * 65536) /* of all slices */
+#define LONGEST (4 * 65536) /* of all slices */
 #define GUARD 32
 #define SLICES 3
 
@@ -46,6 +46,27 @@ static void lend(int n, const uint8_t *bytes, size_t size)
         memcpy(s->given, bytes, size);
     memcpy(s->want, s->area, size + GUARD);
     s->wanted = s->want + (s->given - s->area);
+}
+
+/* The size of a buffer that is long enough, or not, for so many bytes. */
+static size_t size_near(size_t need)
+{
+    switch (below(8)) {
+    case 0:
+        return 0;
+    case 1:
+        return below(need + 1);
+    case 2:
+        return need + 1;
+    case 3:
+        return need + below(100);
+    case 4:
+        return 65536 + below(need + 1); /* enough; its two low bytes by themselves may not be */
+    case 5:
+        return need - (need > 0);
+    default:
+        return need;
+    }
 }
 
 /* Whether slice n and its guard are what is wanted; if not, the first place, counted from the slice's start. */

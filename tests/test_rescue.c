@@ -54,27 +54,6 @@ static void compare(const size_t sizes[SLICES])
     most_ranges = rescue.ranges > most_ranges ? rescue.ranges : most_ranges;
 }
 
-/* The size of a buffer that is long enough, or not, for so many bytes. */
-static size_t near(size_t need)
-{
-    switch (below(8)) {
-    case 0:
-        return 0;
-    case 1:
-        return below(need + 1);
-    case 2:
-        return need + 1;
-    case 3:
-        return need + below(100);
-    case 4:
-        return 65536 + below(need + 1); /* enough; its two low bytes by themselves may not be */
-    case 5:
-        return need - (need > 0);
-    default:
-        return need;
-    }
-}
-
 /* Tries the input with buffers of the sizes that it needs, with one or both a byte shorter, and with `more` others. */
 static void each(const char *what, int more)
 {
@@ -92,11 +71,11 @@ static void each(const char *what, int more)
         compare(sizes);
     }
     for (int i = 0; i < more; i++) {
-        sizes[RECORDS] = near(records), sizes[RANGES] = near(ranges);
+        sizes[RECORDS] = size_near(records), sizes[RANGES] = size_near(ranges);
         compare(sizes);
         /* without the buffers, their lengths may be any */
-        sizes[RECORDS] = one_in(2) ? (size_t)edge() : near(records);
-        sizes[RANGES] = one_in(2) ? (size_t)edge() : near(ranges);
+        sizes[RECORDS] = one_in(2) ? (size_t)edge() : size_near(records);
+        sizes[RANGES] = one_in(2) ? (size_t)edge() : size_near(ranges);
         SAME_U(enfys_rescue_refusal(bytes, length, sizes[RECORDS], sizes[RANGES]),
                model_rescue(bytes, length, NULL, sizes[RECORDS], NULL, sizes[RANGES], &rescue), SIZES);
         SAME_U(enfys_rescue_kept(bytes, length, sizes[RECORDS], sizes[RANGES]), rescue.kept, SIZES);
