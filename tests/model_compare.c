@@ -66,9 +66,11 @@ static uint32_t read_all(const uint8_t *bytes, size_t length, struct file *file)
 
 static uint32_t order_refusal(const struct file *file)
 {
-    const size_t from = MISTAKE(261, 1, 2), end = file->count - MISTAKE(260, 0, file->count > 0); /* a pair is missed */
+    size_t end = file->count;
 
-    for (size_t i = from; i < end; i++) {
+    /* the last pair is missed, of any file or of the longest; 261: the first pair */
+    end -= MISTAKE(260, 0, end > 0) + MISTAKE(271, 0, end == ROOM - 1);
+    for (size_t i = MISTAKE(261, 1, 2); i < end; i++) {
         struct instant before = file->record[MISTAKE(266, i - 1, 0)].at, at = file->record[i].at; /* 266: the first */
 
         if (MISTAKE(225, moment(before), moment(before) - 1) >= moment(at) && /* equal ones accepted */

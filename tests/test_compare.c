@@ -236,26 +236,41 @@ static void each_bit(void)
     }
 }
 
-/* Files of the greatest number of records, and of lengths beside that. */
+/* Two files of the greatest number of records, where they get any. */
+static void start_long(const struct share *share)
+{
+    start();
+    add_instants(4900, (struct instant){between(FIRST_DAY, FIRST_DAY + 20000), 0}, share);
+    for (int f = 0; f < 2; f++)
+        files[f].length = files[f].length > FILE_MOST ? FILE_MOST : files[f].length;
+}
+
+/* Such files, wrong at their end alone, and of lengths beside that. */
 static void long_files(void)
 {
     static const size_t lengths[] = {
         0,         RECORD_BYTES - 1, RECORD_BYTES, FILE_MOST - RECORD_BYTES,     FILE_MOST - 1,
         FILE_MOST, FILE_MOST + 1,    65536,        FILE_MOST + RECORD_BYTES - 1, FILE_MOST + RECORD_BYTES,
         65550 + 1, FILE_MOST + 60,   2 * FILE_MOST};
-    static const size_t enough = 4900; /* instants: either file is then too long, where it gets any */
+    static const size_t last = FILE_MOST / RECORD_BYTES - 1;
 
-    for (size_t i = 0; i < SHARES + sizeof lengths / sizeof *lengths; i++) {
-        const size_t size = i < SHARES ? FILE_MOST : lengths[i - SHARES];
-
-        start();
-        add_instants(enough, (struct instant){between(FIRST_DAY, FIRST_DAY + 20000), 0}, &shares[i % SHARES]);
-        for (int f = 0; f < 2; f++)
-            files[f].length = files[f].length > FILE_MOST ? FILE_MOST : files[f].length;
-        if (i >= SHARES)
-            files[0].length = size;
-        each("the longest files", 2);
-        files[1].length = files[0].length;
+    for (size_t k = 0; k < SHARES; k++) {
+        start_long(&shares[k]);
+        each(shares[k].what, 2);
+    }
+    for (int k = 0; k < 12; k++) {
+        start_long(&shares[k % 4 < 2 ? 0 : 2]);
+        if (k % 3 == 2)
+            spoil(record_of(&files[k % 2], last));
+        else
+            disorder(&files[k % 2], last - 1, k % 3);
+        each("the longest files, wrong at the end", 1);
+    }
+    for (size_t k = 0; k < sizeof lengths / sizeof *lengths; k++) {
+        start_long(&shares[k % 3]);
+        files[0].length = lengths[k];
+        each("a file of a length at a limit", 2);
+        files[1].length = lengths[k];
         each("two files of a length at a limit", 1);
     }
 }
