@@ -2,7 +2,8 @@
 #
 #   make demo                a day of corrections, readable
 #   make test                the whole gate
-#   make examples            the example daemon, nutation rows from a file, and a rescue from an image, held to their stored output
+#   make examples            the example daemon, nutation rows from a file, a rescue from an image, and a comparison of two files of
+#                            records, held to their stored output
 #   make bench               times against plain C, and ERFA where it is installed; status 1 above a limit
 #   make install PREFIX=..   header, archive, programs, the tool enfysgar-rows with an example, pkg-config file, manual pages, notice,
 #                            licence, rules, differences, changes and the source of the routines; PREFIX has no spaces
@@ -14,12 +15,13 @@ RT ?= rt
 CC ?= cc
 CFLAGS ?= -O2 -Wall -Wextra
 PREFIX ?= /usr/local
-VERSION = 2.4.0
+VERSION = 2.5.0
 DAY ?= 2007 12 31 96 900
 
 ARCHIVE = target/staticlib/libenfysgar.a
 PROGRAM = target/bin/run_day
 RESCUE = target/bin/rescue_records
+COMPARE = build/examples/compare_records
 CRATES = crates.txt $(shell find crates -name '*.rt' -o -name '*.antt')
 
 # what is installed of the source: the code and its definitions
@@ -33,7 +35,7 @@ C_FILES = $(wildcard include/*.h tests/*.c tests/*.h examples/*.c bench/*.c benc
 all: archive program
 
 archive: $(ARCHIVE)
-program: $(PROGRAM) $(RESCUE)
+program: $(PROGRAM) $(RESCUE) $(COMPARE)
 
 $(ARCHIVE): $(CRATES)
 	$(RT) staticlib enfysgar
@@ -64,10 +66,31 @@ build/examples/image.bin: Makefile
 	{ printf '$(RECORD)$(RECORD)'; head -c 512 /dev/zero; printf '$(RECORD)' | head -c 20; printf '$(RECORD)'; \
 	    head -c 64904 /dev/zero; printf '$(RECORD)'; head -c 5 /dev/zero; } >$@
 
+# Two files for compare_records: the last microsecond of day 54464 with other numbers in each, that record, and one more in each. In a
+# third the order is wrong.
+EVE = \000\036\001\000\000\000\324\300\000\000\000\024\035\327\137\377\200\000\000\000\000\000\000\005\000\000\000\007\054\054
+EVE_AGAIN = \000\036\001\000\000\000\324\300\000\000\000\024\035\327\137\377\177\377\377\377\000\000\000\005\000\000\000\004\054\061
+QUARTER = \000\036\001\000\000\000\324\301\000\000\000\040\065\244\351\000\000\000\000\002\000\000\000\002\000\000\000\002\013\127
+NEXT = \000\036\001\000\000\000\324\302\000\000\000\100\000\000\000\000\000\000\000\003\000\000\000\003\000\000\000\003\051\327
+
+build/examples/first.bin: Makefile
+	@mkdir -p build/examples
+	printf '$(EVE)$(RECORD)$(QUARTER)' >$@
+
+build/examples/second.bin: Makefile
+	@mkdir -p build/examples
+	printf '$(EVE_AGAIN)$(RECORD)$(NEXT)' >$@
+
+build/examples/falling.bin: Makefile
+	@mkdir -p build/examples
+	printf '$(RECORD)$(EVE)' >$@
+
 # nutation_rows: within the rows, after the last, and for a file that has no rows, where its status is 1
 # rescue_image: an image, its records themselves, and an image that is missing, where its status is 1
+# compare_records: two files, where its status is 1, a file and itself, and two that are refused, where it is 2
 examples: build/examples/daemon build/examples/show_records build/examples/nutation_rows build/examples/built_in_rows.bin \
-    build/examples/rescue_image build/examples/image.bin
+    build/examples/rescue_image build/examples/image.bin \
+    $(COMPARE) build/examples/first.bin build/examples/second.bin build/examples/falling.bin
 	build/examples/daemon >build/examples/daemon.out
 	diff -u examples/daemon.expected build/examples/daemon.out
 	build/examples/nutation_rows build/examples/built_in_rows.bin 54466 1 >build/examples/nutation_rows.out
@@ -80,7 +103,11 @@ examples: build/examples/daemon build/examples/show_records build/examples/nutat
 	diff -u examples/rescue_image.expected build/examples/rescue_image.out
 	cmp build/examples/rescued.bin build/examples/again.bin
 	build/examples/show_records <build/examples/rescued.bin >/dev/null
-	@echo "examples: the daemon, nutation_rows and rescue_image wrote what they should"
+	$(COMPARE) build/examples/first.bin build/examples/second.bin >build/examples/compare_records.out; test $$? = 1
+	$(COMPARE) build/examples/first.bin - <build/examples/first.bin >>build/examples/compare_records.out
+	$(COMPARE) build/examples/image.bin build/examples/falling.bin 2>>build/examples/compare_records.out; test $$? = 2
+	diff -u examples/compare_records.expected build/examples/compare_records.out
+	@echo "examples: the daemon, nutation_rows, rescue_image and compare_records wrote what they should"
 
 bench: $(ARCHIVE)
 	bench/run
@@ -88,14 +115,15 @@ bench: $(ARCHIVE)
 test:
 	.ci/run
 
-install: $(ARCHIVE) $(PROGRAM) $(RESCUE)
+install: $(ARCHIVE) $(PROGRAM) $(RESCUE) $(COMPARE)
 	install -d $(DESTDIR)$(PREFIX)/include $(DESTDIR)$(PREFIX)/lib/pkgconfig $(DESTDIR)$(PREFIX)/bin \
 	    $(DESTDIR)$(PREFIX)/share/man/man1 $(DOC) $(DESTDIR)$(PREFIX)/share/enfysgar
 	install -m 644 include/enfysgar.h $(DESTDIR)$(PREFIX)/include/
 	install -m 644 $(ARCHIVE) $(DESTDIR)$(PREFIX)/lib/
-	install -m 755 $(PROGRAM) $(RESCUE) $(DESTDIR)$(PREFIX)/bin/
+	install -m 755 $(PROGRAM) $(RESCUE) $(COMPARE) $(DESTDIR)$(PREFIX)/bin/
 	install -m 755 tools/rows $(DESTDIR)$(PREFIX)/bin/enfysgar-rows
-	install -m 644 packaging/run_day.1 packaging/rescue_records.1 packaging/enfysgar-rows.1 $(DESTDIR)$(PREFIX)/share/man/man1/
+	install -m 644 packaging/run_day.1 packaging/rescue_records.1 packaging/compare_records.1 packaging/enfysgar-rows.1 \
+	    $(DESTDIR)$(PREFIX)/share/man/man1/
 	install -m 644 NOTICE LICENSE CHANGELOG.md docs/DIFFERENCES.md docs/RULES.md $(DOC)/
 	install -d $(DOC)/examples
 	install -m 644 examples/built_in_rows.txt $(DOC)/examples/

@@ -1,8 +1,9 @@
 /*
  * Times the library's calls beside plain C (tests/model*.c, with libm's sine and cosine, plain.h for dates,
- * UTC and phases, plain_rows.h for nutation rows, plain_rescue.h for the rescue of records, plain_angles.h for the
- * angles of a day), and beside ERFA where it is installed (WITH_ERFA), in one process on the same inputs. A row whose
- * ratio is above the most that is allowed for it is marked, and the status is 1.
+ * UTC and phases, plain_rows.h for nutation rows, plain_rescue.h for the rescue of records, plain_compare.h for the
+ * comparison of two files of them, plain_angles.h for the angles of a day), and beside ERFA where it is installed
+ * (WITH_ERFA), in one process on the same inputs. A row whose ratio is above the most that is allowed for it is marked,
+ * and the status is 1.
  */
 #define _POSIX_C_SOURCE 199309L
 #include "work.h"
@@ -82,6 +83,9 @@ static struct row {
     {"rescue: clean, against loads of eight bytes", rescue_clean, rescue_clean_loads, 0, CLEAN_BYTES, 0, 0},
     {"rescue: damaged, against the same", rescue_damaged, rescue_damaged_loads, 0, CLEAN_BYTES, 0, 0},
     {"rescue: noise, against memchr", rescue_noise, rescue_noise_memchr, 0, ENFYS_RESCUE_MOST, 0, 0},
+    {"comparison: equal files of 2184 records", compare_equal, compare_equal_plain, 1.5, PAIR_BYTES, 0, 0},
+    {"comparison: other numbers everywhere", compare_changed, compare_changed_plain, 1.5, PAIR_BYTES, 0, 0},
+    {"comparison: no instant in common", compare_between, compare_between_plain, 1.5, PAIR_BYTES, 0, 0},
 };
 
 #define ROWS (sizeof rows / sizeof *rows)
@@ -158,10 +162,30 @@ static void make_images(void)
     }
 }
 
+/* The files that are compared: a record every half hour. */
+static void make_files(void)
+{
+    for (int n = 0; n < PAIRS; n++)
+        for (int i = 0; i < ENFYS_COMPARE_MOST / RECORD_BYTES; i++) {
+            struct record r = {{16000 + 7 * n + i / 48, (uint64_t)(i % 48) * 2 * STEP}, {0, 0, 0}};
+            const int at = RECORD_BYTES * i;
+
+            for (int k = 0; k < 3; k++)
+                r.number[k] = (int32_t)(next() % 200000000) - 100000000;
+            model_write(&r, file[n] + at, RECORD_BYTES);
+            model_write(&r, equal[n] + at, RECORD_BYTES);
+            r.number[next() % 3] += 1 + (int32_t)(next() % 100);
+            model_write(&r, changed[n] + at, RECORD_BYTES);
+            r.at.micros += STEP;
+            model_write(&r, between[n] + at, RECORD_BYTES);
+        }
+}
+
 static void make_inputs(void)
 {
     make_rows();
     make_images();
+    make_files();
     for (int i = 0; i < INPUTS; i++) {
         at[i] = (struct instant){(int64_t)(16000 + next() % 72000), next() % 86400000000};
         inside[i] = (struct instant){(int64_t)(45700 + next() % 10593), next() % 86400000000};
@@ -263,6 +287,44 @@ static int same_rescues(void)
     return wrong == 0;
 }
 
+/* Whether plain_compare.h and the library list the same of two files, to the last byte of a list of this size. */
+static int same_comparison(const uint8_t *first, size_t first_length, const uint8_t *second, size_t second_length,
+                           size_t size)
+{
+    static uint8_t list[2][sizeof entries];
+
+    memset(list, 1, sizeof list);
+    return enfys_compare(first, first_length, second, second_length, list[0], size) ==
+               compare_plain(first, first_length, second, second_length, list[1], size) &&
+           memcmp(list[0], list[1], sizeof entries) == 0;
+}
+
+/* The same for all files, for parts of them with a bit changed, and for lists and files that are cut. */
+static int same_comparisons(void)
+{
+    static uint8_t part[40 * RECORD_BYTES];
+    int wrong = 0;
+
+    for (int n = 0; n < PAIRS; n++) {
+        wrong += !same_comparison(file[n], sizeof *file, equal[n], sizeof *file, 0);
+        wrong += !same_comparison(file[n], sizeof *file, changed[n], sizeof *file, sizeof entries);
+        wrong += !same_comparison(between[n], sizeof *file, file[n], sizeof *file, sizeof entries);
+        wrong += !same_comparison(file[n], sizeof *file, (const uint8_t *)file, sizeof *file + RECORD_BYTES, 0);
+    }
+    for (int i = 0; i < 20000; i++) {
+        const size_t length = sizeof part - next() % 20 * (i % 8 == 0 ? 7 : RECORD_BYTES);
+
+        memcpy(part, (i % 2 == 0 ? changed : between)[i % PAIRS], sizeof part);
+        if (i % 3 > 0)
+            part[next() % length] ^= (uint8_t)(1 << next() % 8);
+        if (i % 5 == 0)
+            memcpy(part + RECORD_BYTES * (next() % 40), part, RECORD_BYTES);
+        wrong += !same_comparison(file[i % PAIRS], sizeof part, part, length, next() % 3000);
+        wrong += !same_comparison(part, length, file[i % PAIRS], sizeof part, 3000);
+    }
+    return wrong == 0;
+}
+
 /* Whether plain_angles.h and the library have the same angles to the bit, and the same refusals beside a year's end. */
 static int same_angles(uint64_t year, double day)
 {
@@ -294,7 +356,7 @@ static int right(void)
     for (int i = 0; i < STEPS; i++)
         for (uint64_t micros = 0; micros < 100000000; micros += 500000)
             wrong += !same_utc((struct instant){step_day[i], micros}) || !same_utc((struct instant){EXPIRY, micros});
-    return wrong == 0 && same_rescues();
+    return wrong == 0 && same_rescues() && same_comparisons();
 }
 
 /* Of the rows that go over bytes, how many each side does in a second. */

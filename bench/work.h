@@ -7,6 +7,7 @@
 #include "plain.h"
 #include "plain_angles.h"
 #include "plain_rows.h"
+#include "work_compare.h"
 #include "work_rescue.h"
 
 #ifdef WITH_ERFA

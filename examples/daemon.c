@@ -2,8 +2,9 @@
  * How a daemon uses the library: it reads the two clock words of the unit, notices a torn read,
  * and gives corrections and offsets for that instant, and the phase for its UTC; and the same for UTC
  * times as an operator types them. Where the library has no UTC the unit goes on without a phase. Then come
- * the angles of the ocean tides for one date, and at the end what each refusal means. The clock and the
- * operator here are made up; nothing of this file is part of the proved product.
+ * the angles of the ocean tides for one date, what differs between two files of records, and at the end what
+ * each refusal means. The clock and the operator here are made up; nothing of this file is part of the proved
+ * product.
  *
  *     cc -O2 -Iinclude examples/daemon.c target/staticlib/libenfysgar.a -lm -o daemon
  *     ./daemon ['2016-12-31 23:59:60.5' ..]
@@ -42,6 +43,8 @@ static const char *const meaning[] = {
     "uncertainty or amplitude of a row out of its limits",
     "more than 65536 bytes to rescue records from",
     "no such day of the year, or not a number",
+    "record file: not of at most 2184 whole records",
+    "record file: a record not later than the one before",
 };
 
 static const char *text(uint32_t refusal)
@@ -236,6 +239,42 @@ static int show_angles(uint64_t year, uint64_t month, uint64_t day_of_month, uin
     return 0;
 }
 
+static uint64_t number(const uint8_t *at, int size)
+{
+    uint64_t n = 0;
+
+    for (int i = 0; i < size; i++)
+        n = n << 8 | at[i];
+    return n;
+}
+
+/* What differs between a run and another that lacks its last record and has two numbers changed in the one before. */
+static int show_comparison(void)
+{
+    static const char *const side[] = {"", "first file only", "second file only", "both files"};
+    uint8_t first[3 * ENFYS_RECORD_BYTES], second[2 * ENFYS_RECORD_BYTES], list[2 * ENFYS_COMPARE_ENTRY_BYTES];
+    uint8_t *changed = second + ENFYS_RECORD_BYTES;
+    int64_t day;
+    uint64_t micros, entries;
+    int32_t ut1, lod, rate;
+
+    if (refused(enfys_run_write(54465, 0, 3, 900000000, first, sizeof first)) ||
+        refused(enfys_run_write(54465, 0, 2, 900000000, second, sizeof second)) ||
+        refused(enfys_record_read(changed, ENFYS_RECORD_BYTES, &day, &micros, &ut1, &lod, &rate)) ||
+        refused(enfys_record_write(day, micros, ut1 + 2, lod, rate - 1, changed, ENFYS_RECORD_BYTES)) ||
+        refused(enfys_compare(first, sizeof first, second, sizeof second, list, sizeof list)))
+        return 1;
+    entries = enfys_compare_entries(first, sizeof first, second, sizeof second, sizeof list);
+    printf("two files of records differ at %" PRIu64 " instants\n", entries);
+    for (const uint8_t *at = list; at < list + ENFYS_COMPARE_ENTRY_BYTES * entries; at += ENFYS_COMPARE_ENTRY_BYTES) {
+        if (show_instant((int64_t)number(at + 1, 4), number(at + 5, 8)) != 0)
+            return 1;
+        printf("  %s: UT1 %" PRId64 " ns, length of day %" PRId64 " ps, rate %" PRId64 "e-20 rad/s\n", side[at[0] & 3],
+               (int64_t)number(at + 13, 8), (int64_t)number(at + 21, 8), (int64_t)number(at + 29, 8));
+    }
+    return 0;
+}
+
 static void show(uint32_t refusal, const char *call)
 {
     printf("  %2" PRIu32 "  %-54s %s\n", refusal, text(refusal), call);
@@ -268,8 +307,11 @@ static void show_refusals(void)
 {
     static const uint8_t image[ENFYS_RESCUE_MOST + 1];
     uint8_t record[ENFYS_RECORD_BYTES], run[ENFYS_RUN_RECORDS * ENFYS_RECORD_BYTES], damaged[4][ENFYS_RECORD_BYTES];
+    uint8_t twice[2 * ENFYS_RECORD_BYTES];
 
     enfys_record_write(54465, 0, 1, -1, 0, record, sizeof record);
+    memcpy(twice, record, sizeof record);
+    memcpy(twice + sizeof record, record, sizeof record);
     for (int i = 0; i < 4; i++)
         memcpy(damaged[i], record, sizeof record);
     damaged[0][1] = 31;
@@ -302,6 +344,8 @@ static void show_refusals(void)
     show(enfys_rescue_refusal(image, sizeof image, ENFYS_RESCUE_RECORDS_BYTES, ENFYS_RESCUE_RANGES_BYTES),
          "rescuing from 65537 bytes");
     show(enfys_schwiderski_refusal(2100, 366.0), "angles on day 366 of 2100");
+    show(enfys_compare_refusal(record, sizeof record, record, 29, 0), "comparing with a file of 29 bytes");
+    show(enfys_compare_refusal(record, sizeof record, twice, sizeof twice, 0), "with a file of an instant twice");
 }
 
 int main(int argc, char **argv)
@@ -332,7 +376,7 @@ int main(int argc, char **argv)
     for (int i = 1; i < argc; i++)
         if (serve_typed(argv[i]) != 0)
             return 1;
-    if (show_angles(2008, 11, 6, 12, 0) != 0)
+    if (show_angles(2008, 11, 6, 12, 0) != 0 || show_comparison() != 0)
         return 1;
     printf("what each refusal means, and a call that gives it\n");
     show_refusals();

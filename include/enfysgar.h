@@ -1,7 +1,8 @@
 /*
  * Enfysgar: calendar, clock words, tidal phases, zonal-tide corrections,
- * free-core-nutation offsets, records and their rescue from a bad disk, UTC to TT and
- * back, and Schwiderski's tidal angles, for a timing unit.
+ * free-core-nutation offsets, records, their rescue from a bad disk and the
+ * comparison of two files of them, UTC to TT and back, and Schwiderski's tidal
+ * angles, for a timing unit.
  *
  * Include this header, and link libenfysgar.a and the mathematical library, which
  * has fmod:
@@ -11,9 +12,10 @@
  * The archive is for x86-64 Linux.
  *
  * A call gives a whole answer: it returns the refusal number and, where that is 0,
- * writes every number of the answer through its pointers (two calls of (g) fill a
- * buffer, and that of (i) two; that of (j) fills an array). On a refusal it writes
- * nothing. Each number can be asked for by itself too: see the end of this header.
+ * writes every number of the answer through its pointers (two calls of (g) and that
+ * of (k) fill a buffer, and that of (i) two; that of (j) fills an array). On a
+ * refusal it writes nothing. Each number can be asked for by itself too: see the end
+ * of this header.
  *
  * A number that is a parameter may have any value; nothing has to be checked first,
  * and what cannot be answered is refused by a number (the table below). Pointers
@@ -24,12 +26,14 @@
  *     bytes that are lent to it. The numbers need no value before the call. That of
  *     (j) points to eleven of them.
  *   - `buffer`, `bytes` and `rows` point to `length` bytes of the caller's memory;
- *     `input`, `records` and `ranges` of (i) to as many as the length behind each
- *     says. With length 0 the pointer is not used, and may be NULL. `records` and
- *     `ranges` overlap neither each other nor the input.
+ *     `input`, `records` and `ranges` of (i), and `first`, `second` and `list` of
+ *     (k), to as many as the length behind each says. With length 0 the pointer is
+ *     not used, and may be NULL. `records` and `ranges` overlap neither each other
+ *     nor the input; `list` overlaps neither file, but the files may overlap or be
+ *     the same.
  *   - During the call nothing else reads or writes what the call can write (the
  *     numbers, the buffers), nor writes what it reads (the bytes, the rows, the
- *     input).
+ *     input, the files).
  *
  * No call keeps anything between two calls, allocates memory, or reads or writes
  * anything but its arguments and what they point to, so any number of threads may
@@ -93,9 +97,9 @@ extern "C" {
  * used, since its arguments would be taken for others: compile it anew.
  */
 #define ENFYS_VERSION_MAJOR 2
-#define ENFYS_VERSION_MINOR 4
+#define ENFYS_VERSION_MINOR 5
 #define ENFYS_VERSION_PATCH 0
-#define ENFYS_VERSION_STRING "2.4.0"
+#define ENFYS_VERSION_STRING "2.5.0"
 
 /*
  * Refusal numbers. 0 is success. Where several apply, the first in the order
@@ -136,8 +140,11 @@ enum {
     ENFYS_ROWS_SIZE = 24,      /* a row's uncertainty outside 1..100000, or XC or XS
                                   outside -100000..100000 */
     ENFYS_RESCUE_LENGTH = 25,  /* input of a rescue longer than 65536 bytes */
-    ENFYS_DAY_OF_YEAR = 26     /* day of the year below 1, or 366 or more (367 in a
+    ENFYS_DAY_OF_YEAR = 26,    /* day of the year below 1, or 366 or more (367 in a
                                   leap year), or NaN */
+    ENFYS_FILE_LENGTH = 27,    /* length of a record file not a multiple of 30, or
+                                  above 65520 */
+    ENFYS_FILE_ORDER = 28      /* a record of a file not later than the one before */
 };
 
 /* First and last accepted day, microseconds in a day, and the sizes of records. */
@@ -160,6 +167,14 @@ enum {
 #define ENFYS_RESCUE_RANGE_BYTES 8
 #define ENFYS_RESCUE_RECORDS_BYTES 65520
 #define ENFYS_RESCUE_RANGES_BYTES 16920
+
+/*
+ * A comparison: the longest record file, the bytes of an entry in the list, and the
+ * size of a list that holds the answer for any two files: 4368 entries.
+ */
+#define ENFYS_COMPARE_MOST 65520
+#define ENFYS_COMPARE_ENTRY_BYTES 37
+#define ENFYS_COMPARE_LIST_BYTES 161616
 
 /* How many angles (j) has. */
 #define ENFYS_ANGLES 11
@@ -448,14 +463,54 @@ uint32_t enfys_rescue(const uint8_t *input, size_t input_length, uint8_t *record
 uint32_t enfys_schwiderski(uint64_t year, double day, double *angles);
 
 /*
+ * (k) The differences between two record files. A file is records one behind the
+ * other, as enfys_record_read reads them, with nothing between or around them: at
+ * most 2184, which is 65520 bytes, each later than the one before. It may be empty.
+ *
+ * Listed is every instant that only one of the files has, and every instant of both
+ * at which UT1, length of day or rate is not the same. The list is in the order of
+ * the instants; for equal files it is empty. An entry is 37 bytes, each number with
+ * its high byte first:
+ *
+ *    0     side: 1 only the first file has the instant, 2 only the second, 3 both
+ *    1-4   day
+ *    5-12  micros
+ *   13-20  ut1    \  second file minus first, signed, two's complement, units as in
+ *   21-28  lod     } (e), each from -4294967295 to 4294967295; zeros where the side
+ *   29-36  rate   /  is 1 or 2
+ *
+ * With the files exchanged the same instants are listed, with sides 1 and 2 exchanged
+ * and each difference negated.
+ *
+ * Refused, in this order:
+ *
+ *   27  the first file's length is no multiple of 30, or is above 65520
+ *   14, 13, 15, 16, 8, 9, 10  the first file has records that do not read: that of
+ *       the earliest of them, by its place, as in enfys_record_read
+ *   28  a record of the first file is not later than the one before it
+ *   27, the refusal of a record, 28  the same of the second file
+ *   12  list_length below 37 times the number of entries
+ *
+ * A list of ENFYS_COMPARE_LIST_BYTES is never too short. On success no byte behind
+ * the entries has changed; on a refusal no byte has. The files are only read. Which
+ * of the two is refused shows where each is compared with itself:
+ * enfys_compare_refusal with one file in both places gives the refusal of that file,
+ * or 0.
+ */
+uint32_t enfys_compare(const uint8_t *first, size_t first_length,
+                       const uint8_t *second, size_t second_length, uint8_t *list,
+                       size_t list_length);
+
+/*
  * Each number by itself
  *
- * Each call below, but for the two that end in `_probes` and those of (i), gives
- * one number of a whole answer above, for the same inputs. Units, rules and refusals
- * are those of the service. On a refusal the number is 0 (+0.0 for a double); the
- * call of the group that ends in `_refusal` gives the refusal number. The calls of a
- * group always agree, with each other and with the whole answer. Each computes the
- * whole answer again: a caller who wants several of its numbers uses the call above.
+ * Each call below, but for the two that end in `_probes` and those of (i) and (k),
+ * gives one number of a whole answer above, for the same inputs. Units, rules and
+ * refusals are those of the service. On a refusal the number is 0 (+0.0 for a
+ * double); the call of the group that ends in `_refusal` gives the refusal number.
+ * The calls of a group always agree, with each other and with the whole answer. Each
+ * computes the whole answer again: a caller who wants several of its numbers uses
+ * the call above.
  */
 
 /* (a) The day number of a date, as in enfys_day_of_date. */
@@ -601,6 +656,19 @@ double enfys_schwiderski_mf(uint64_t year, double day);
 double enfys_schwiderski_mm(uint64_t year, double day);
 double enfys_schwiderski_ssa(uint64_t year, double day);
 uint32_t enfys_schwiderski_refusal(uint64_t year, double day);
+
+/*
+ * (k) What enfys_compare does with these files and a list of so many bytes, without
+ * the list: how many entries it writes, none beside a refusal, and its refusal. With
+ * SIZE_MAX for list_length they say how long the list has to be:
+ * ENFYS_COMPARE_ENTRY_BYTES for each entry.
+ */
+uint64_t enfys_compare_entries(const uint8_t *first, size_t first_length,
+                               const uint8_t *second, size_t second_length,
+                               size_t list_length);
+uint32_t enfys_compare_refusal(const uint8_t *first, size_t first_length,
+                               const uint8_t *second, size_t second_length,
+                               size_t list_length);
 
 #ifdef __cplusplus
 }

@@ -180,6 +180,29 @@ uint64_t some_micros(void)
     }
 }
 
+void mend(uint8_t *record, int at)
+{
+    unsigned sum = 0;
+
+    for (int i = 0; i < RECORD_BYTES; i += 2)
+        if (i != at)
+            sum += (unsigned)record[i] << 8 | record[i + 1];
+    sum = 65536 - sum % 65536;
+    record[at] = (uint8_t)(sum >> 8 & 0xff);
+    record[at + 1] = (uint8_t)(sum & 0xff);
+}
+
+void set_instant(uint8_t *record, int64_t day, uint64_t micros)
+{
+    uint64_t time = micros + (uint64_t)day % 8 * MARK;
+
+    for (int i = 7; i >= 4; i--, day /= 256)
+        record[i] = (uint8_t)(day % 256);
+    for (int i = 15; i >= 8; i--, time /= 256)
+        record[i] = (uint8_t)(time % 256);
+    mend(record, 28);
+}
+
 static size_t pages(size_t size)
 {
     size_t page = (size_t)sysconf(_SC_PAGESIZE);

@@ -103,6 +103,11 @@ int one_in(unsigned n);
 int64_t some_day(void);
 uint64_t some_micros(void);
 
+/* Makes a word of a record, two bytes from `at` on, what it has to be for the sum. */
+void mend(uint8_t *record, int at);
+/* Gives a record this instant, accepted or not, with the mark and the sum that go with it. */
+void set_instant(uint8_t *record, int64_t day, uint64_t micros);
+
 /*
  * A block of `size` bytes that ends where unmapped memory begins, so that reading or writing past
  * it ends the program. Free it with lent_free. The bytes before it are not guarded.

@@ -38,6 +38,8 @@ extern int model_mistake;
 #define MOST_ROWS 200
 #define RESCUE_MOST 65536
 #define RANGE_BYTES 8
+#define FILE_MOST 65520
+#define ENTRY_BYTES 37
 #define ANGLES 11
 
 struct date {
@@ -116,6 +118,13 @@ struct instant model_run_instant(struct instant start, uint64_t k, uint64_t step
  */
 uint32_t model_rescue(const uint8_t *input, size_t length, uint8_t *records, size_t records_length, uint8_t *ranges,
                       size_t ranges_length, struct rescue *rescue);
+
+/*
+ * The differences between two record files: the refusal, the list and the number of its entries. A list that is NULL is
+ * not written, whatever its length (model_compare.c).
+ */
+uint32_t model_compare(const uint8_t *first, size_t first_length, const uint8_t *second, size_t second_length,
+                       uint8_t *list, size_t list_length, uint64_t *entries);
 
 /*
  * Angles of Schwiderski's constituents for any year and day of it; by the formula alone, for a year as an offset from

@@ -10,25 +10,16 @@ import resource
 import subprocess
 import sys
 import tempfile
-import time
 from concurrent.futures import ThreadPoolExecutor
 
+import example
 import rescue_rules
+from example import ENVIRONMENT, first_difference, from_a_slow_pipe
 from rescue_rules import MOST, RECORD, RNG, TEXT_MISTAKES, WALK_MISTAKES, overlapping, pieces, record, records, text, walk
 
-HERE = os.path.dirname(os.path.abspath(__file__))
-ROOT = os.path.dirname(HERE)
-ARCHIVE = os.environ.get("ARCHIVE", os.path.join(ROOT, "target/staticlib/libenfysgar.a"))
-BUILD = os.path.join(os.environ.get("BUILD", os.path.join(ROOT, "build")), "tests")
-PROGRAM = os.path.join(BUILD, "rescue_image")
+PROGRAM = example.build("rescue_image")
+PLAIN = example.build("rescue_image", "_plain", ())
 MEMORY = 24 << 20  # for all of the program; the image that it gets then is longer
-ENVIRONMENT = dict(os.environ, ASAN_OPTIONS="detect_leaks=0", LC_ALL="C")
-
-
-def build(name, *flags):
-    os.makedirs(BUILD, exist_ok=True)
-    subprocess.run(["cc", "-std=c11", "-O2", "-Wall", "-Wextra", "-Werror", *flags, "-I", os.path.join(ROOT, "include"), "-o",
-                    name, os.path.join(ROOT, "examples/rescue_image.c"), ARCHIVE, "-lm"], check=True)
 
 
 # The images.
@@ -95,18 +86,12 @@ def images():
 # The program.
 
 def fail(what, got, want):
-    shown = [x if len(x) <= 200 else x[:200] + b" .. (%d bytes)" % len(x) for x in (got, want)]
-    print(f"rescue_image: FAILED\n  where    {what}\n  gave     {shown[0]!r}\n  expected {shown[1]!r}", file=sys.stderr)
-    os._exit(1)
+    example.fail("rescue_image", what, got, want)
 
 
 def run(arguments, **more):
     return subprocess.run([PROGRAM, *arguments], stdout=more.pop("stdout", subprocess.PIPE), stderr=subprocess.PIPE, timeout=60,
                           env=ENVIRONMENT, check=False, **more)
-
-
-def first_difference(a, b):
-    return next((i for i, (x, y) in enumerate(zip(a, b)) if x != y), min(len(a), len(b)))
 
 
 def answer(image):
@@ -138,23 +123,11 @@ def from_a_pipe(folder):
     kept = os.path.join(folder, "kept")
     image = pieces(150_000, good=20)
     for name in ("-", "/dev/stdin"):
-        with subprocess.Popen([PROGRAM, name, kept], stdin=subprocess.PIPE, stdout=subprocess.PIPE, stderr=subprocess.PIPE,
-                              env=ENVIRONMENT) as program:
-            at = 0
-            while at < len(image):
-                size = RNG.choice([1, 7, 4096, 30_000])
-                program.stdin.write(image[at:at + size])
-                program.stdin.flush()
-                time.sleep(0.001)
-                at += size
-            program.stdin.close()
-            output, said = program.stdout.read(), program.stderr.read()
-            program.wait(20)
+        done = from_a_slow_pipe([PROGRAM, name, kept], image, RNG)
         with open(kept, "rb") as file:
-            compare(f"a pipe, as {name}", image, (file.read(), output),
-                    subprocess.CompletedProcess([], program.returncode, output, said))
+            compare(f"a pipe, as {name}", image, (file.read(), done.stdout), done)
     image = (pieces(100_000) + bytes(4096)) * (2 * MEMORY // 104_096)
-    done = subprocess.run([PROGRAM + "_plain", "-", kept], input=image, stdout=subprocess.PIPE, stderr=subprocess.PIPE, check=False,
+    done = subprocess.run([PLAIN, "-", kept], input=image, stdout=subprocess.PIPE, stderr=subprocess.PIPE, check=False,
                           preexec_fn=lambda: resource.setrlimit(resource.RLIMIT_AS, (MEMORY, MEMORY)))
     with open(kept, "rb") as file:
         compare(f"{len(image)} bytes with {MEMORY} bytes of memory", image, (file.read(), done.stdout), done)
@@ -230,11 +203,7 @@ def noticed(found, mistake):
 
 
 def main():
-    if not os.path.exists(ARCHIVE):
-        sys.exit(f"rescue_image: no archive at {ARCHIVE}: run 'rt staticlib enfysgar' first")
     rescue_rules.self_test()
-    build(PROGRAM, "-g", "-fsanitize=address,undefined", "-fno-sanitize-recover")
-    build(PROGRAM + "_plain")
     found = list(images())
     assert all(in_windows(image, None) == walk(image) for image in found[-80:-10])
     with ThreadPoolExecutor(os.cpu_count()) as pool:

@@ -4,20 +4,13 @@
 
 #include "check.h"
 #include "model.h"
+#include "slices.h"
 
 #include <string.h>
 
-#define LONGEST (2 * RESCUE_MOST + 4096)
-
-/* The input, and the bytes that noise is taken from. */
-static uint8_t bytes[LONGEST], noise[2 * LONGEST];
+/* The input. */
+static uint8_t bytes[LONGEST];
 static size_t length;
-
-static void make_noise(void)
-{
-    for (size_t i = 0; i < sizeof noise; i++)
-        noise[i] = (uint8_t)any();
-}
 
 static void add(const void *piece, size_t size)
 {
@@ -34,31 +27,6 @@ static void add_zeros(size_t size)
 {
     memset(bytes + length, 0, size);
     length += size;
-}
-
-/* Makes a word of a record what it has to be for the sum. */
-static void mend(uint8_t *record, int at)
-{
-    unsigned sum = 0;
-
-    for (int i = 0; i < RECORD_BYTES; i += 2)
-        if (i != at)
-            sum += (unsigned)record[i] << 8 | record[i + 1];
-    sum = 65536 - sum % 65536;
-    record[at] = (uint8_t)(sum >> 8 & 0xff);
-    record[at + 1] = (uint8_t)(sum & 0xff);
-}
-
-/* Gives a record this instant, accepted or not, with the mark and the sum that go with it. */
-static void set_instant(uint8_t *record, int64_t day, uint64_t micros)
-{
-    uint64_t time = micros + (uint64_t)day % 8 * MARK;
-
-    for (int i = 7; i >= 4; i--, day /= 256)
-        record[i] = (uint8_t)(day % 256);
-    for (int i = 15; i >= 8; i--, time /= 256)
-        record[i] = (uint8_t)(time % 256);
-    mend(record, 28);
 }
 
 static void add_record(void)

@@ -17,14 +17,12 @@ import tempfile
 from concurrent.futures import ThreadPoolExecutor
 
 sys.dont_write_bytecode = True
+import example
+from example import ROOT
 from rows_rules import BYTES_MISTAKES, GOOD, RNG, ROW, TEXT_MISTAKES, damaged_bytes, damaged_text, of_bytes, of_text, packed, rows, tables_by_hand, text_of, texts_by_hand
 
-HERE = os.path.dirname(os.path.abspath(__file__))
-ROOT = os.path.dirname(HERE)
 TOOL = os.environ.get("ROWS", os.path.join(ROOT, "tools/rows"))
-ARCHIVE = os.environ.get("ARCHIVE", os.path.join(ROOT, "target/staticlib/libenfysgar.a"))
-BUILD = os.path.join(os.environ.get("BUILD", os.path.join(ROOT, "build")), "tests")
-EXAMPLE = os.path.join(BUILD, "nutation_rows")
+EXAMPLE = example.build("nutation_rows", flags=())
 BUILT_IN = os.path.join(ROOT, "examples/built_in_rows.txt")
 DEFINED = os.path.join(ROOT, "crates/rows/specs/BuiltIn.antt")
 
@@ -218,9 +216,6 @@ def editions(folder, pool):
 
 
 def main():
-    os.makedirs(BUILD, exist_ok=True)
-    subprocess.run(["cc", "-std=c11", "-O2", "-Wall", "-Wextra", "-Werror", "-I", os.path.join(ROOT, "include"), "-o", EXAMPLE, os.path.join(ROOT, "examples/nutation_rows.c"), ARCHIVE,
-                    "-lm"], check=True)
     module = loaded()
     by_hand = list(texts_by_hand())
     texts = by_hand + [text_of(rows()) for _ in range(300)] + [damaged_text() for _ in range(4000)]

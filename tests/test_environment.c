@@ -10,9 +10,10 @@
 #include "model.h"
 
 #include <fenv.h>
+#include <string.h>
 #include <xmmintrin.h>
 
-#define NUMBERS 137
+#define NUMBERS 141
 #define FLUSH_TO_ZERO 0x8040u /* of results and of operands */
 
 static const int directions[] = {FE_UPWARD, FE_DOWNWARD, FE_TOWARDZERO};
@@ -132,10 +133,31 @@ static int rescued(const uint8_t *run, size_t length, uint64_t *number)
     return n;
 }
 
+/*
+ * What differs between a run's first record and a file of two: a record of the same instant with other numbers, and the
+ * run's second. The list is one sum.
+ */
+static int compared(const uint8_t *run, const uint8_t *first, uint64_t *number)
+{
+    uint8_t file[2 * ENFYS_RECORD_BYTES], list[2 * ENFYS_COMPARE_ENTRY_BYTES] = {0};
+    int n = 0;
+
+    memcpy(file, first, ENFYS_RECORD_BYTES);
+    memcpy(file + ENFYS_RECORD_BYTES, run + ENFYS_RECORD_BYTES, ENFYS_RECORD_BYTES);
+    number[n++] = enfys_compare(run, ENFYS_RECORD_BYTES, file, sizeof file, list, sizeof list);
+    number[n] = 0;
+    for (size_t i = 0; i < sizeof list; i++)
+        number[n] = number[n] * 257 + list[i];
+    n++;
+    number[n++] = enfys_compare_entries(run, ENFYS_RECORD_BYTES, file, sizeof file, sizeof list);
+    number[n++] = enfys_compare_refusal(run, ENFYS_RECORD_BYTES, file, sizeof file, sizeof list);
+    return n;
+}
+
 /* The numbers of an instant, and how many there are. A run's records are taken as one sum. */
 static int answers(int64_t day, uint64_t micros, uint64_t number[NUMBERS])
 {
-    uint8_t run[2 * ENFYS_RECORD_BYTES] = {0};
+    uint8_t run[2 * ENFYS_RECORD_BYTES] = {0}, first[ENFYS_RECORD_BYTES];
     uint64_t year = enfys_day_to_year(day), month = enfys_day_to_month(day), date = enfys_day_to_day_of_month(day);
     uint64_t time = enfys_split_time_word(day, micros), sum = 0;
     int n = 0;
@@ -171,6 +193,7 @@ static int answers(int64_t day, uint64_t micros, uint64_t number[NUMBERS])
     for (size_t i = 0; i < sizeof run; i++)
         sum = sum * 257 + run[i];
     number[n++] = sum;
+    memcpy(first, run, sizeof first);
     number[n++] = enfys_record_write(day, micros, 1, -1, 0, run, sizeof run);
     number[n++] = (uint64_t)enfys_record_day(run, sizeof run);
     number[n++] = enfys_record_micros(run, sizeof run);
@@ -178,6 +201,7 @@ static int answers(int64_t day, uint64_t micros, uint64_t number[NUMBERS])
     number[n++] = (uint64_t)enfys_record_rate(run, sizeof run);
     number[n++] = enfys_record_refusal(run, sizeof run);
     n += rescued(run, sizeof run, number + n);
+    n += compared(run, first, number + n);
     n += utc(day, micros, year, month, date, number + n);
     n += angles(year, micros, number + n);
     return n + whole_answers(day, micros, run, number + n);

@@ -115,18 +115,6 @@ static void place(size_t length)
     model_write(&r, block[length], length);
 }
 
-/* Makes the last word what it has to be, so that the damage is found by what it is. */
-static void mend_sum(uint8_t *bytes)
-{
-    unsigned sum = 0;
-
-    for (int i = 0; i < 28; i += 2)
-        sum += (unsigned)bytes[i] << 8 | bytes[i + 1];
-    sum = (65536 - sum % 65536) % 65536;
-    bytes[28] = (uint8_t)(sum >> 8);
-    bytes[29] = (uint8_t)(sum & 0xff);
-}
-
 static void damage(uint8_t *bytes)
 {
     uint64_t word;
@@ -215,8 +203,8 @@ int main(int argc, char **argv)
         while (one_in(2))
             damage(block[length]);
         if (one_in(2))
-            mend_sum(block[length]);
-        if (one_in(8)) { /* the same bytes, too few of them */
+            mend(block[length], 28); /* so that the damage is found by what it is */
+        if (one_in(8)) {             /* the same bytes, too few of them */
             size_t fewer = below(RECORD_BYTES);
 
             memcpy(block[fewer], block[length], fewer);

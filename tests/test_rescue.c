@@ -11,94 +11,54 @@
 #include <stdio.h>
 #include <sys/mman.h>
 
-#define GUARD 32
 #define FAR ((size_t)1 << 32)
 
 /* What is tried, for a message. */
 static const char *tried = "";
 
-/* Blocks for the input and the buffers. A front begins where unmapped memory ends, a back ends where it begins. */
-enum { INPUT, RECORDS, RANGES, BLOCKS };
-static uint8_t *front[BLOCKS], *back[BLOCKS], want[BLOCKS][LONGEST + GUARD];
+/* The slices. */
+enum { INPUT, RECORDS, RANGES };
 
 static unsigned refused[26];
 static uint64_t most_kept, most_ranges;
 
 #define SIZES "%s: input of %zu bytes, records of %zu, ranges of %zu", tried, length, sizes[RECORDS], sizes[RANGES]
 
-/* A slice of a block, and where what is compared begins: the slice, and guard bytes where memory is mapped. */
-static uint8_t *slice(int block, size_t size, int at_front, uint8_t **with_guard)
-{
-    uint8_t *at = at_front ? front[block] : back[block] + GUARD + LONGEST - size;
-
-    *with_guard = at_front ? at : at - GUARD;
-    return at;
-}
-
 /* Makes the five calls with an input and buffers of these sizes, and compares every byte. */
-static void compare(const size_t sizes[BLOCKS])
+static void compare(const size_t sizes[SLICES])
 {
-    uint8_t *given[BLOCKS], *area[BLOCKS], *wanted[BLOCKS];
+    static const char *const name[] = {"enfys_rescue, its input", "enfys_rescue, the records",
+                                       "enfys_rescue, the ranges"};
+    const struct slice *input = &slices[INPUT], *records = &slices[RECORDS], *ranges = &slices[RANGES];
     struct rescue rescue;
     uint32_t refusal;
+    ptrdiff_t at;
 
-    for (int b = INPUT; b < BLOCKS; b++) {
-        int at_front = one_in(2);
-
-        given[b] = slice(b, sizes[b], at_front, &area[b]);
-        memcpy(area[b], noise + below(LONGEST - GUARD), sizes[b] + GUARD);
-        if (b == INPUT)
-            memcpy(given[b], bytes, length);
-        memcpy(want[b], area[b], sizes[b] + GUARD);
-        wanted[b] = want[b] + (given[b] - area[b]);
-    }
-    refusal = model_rescue(bytes, length, wanted[RECORDS], sizes[RECORDS], wanted[RANGES], sizes[RANGES], &rescue);
-    SAME_U(enfys_rescue_refusal(given[INPUT], length, sizes[RECORDS], sizes[RANGES]), refusal, SIZES);
-    SAME_U(enfys_rescue_kept(given[INPUT], length, sizes[RECORDS], sizes[RANGES]), rescue.kept, SIZES);
-    SAME_U(enfys_rescue_ranges(given[INPUT], length, sizes[RECORDS], sizes[RANGES]), rescue.ranges, SIZES);
-    SAME_U(enfys_rescue_passed(given[INPUT], length, sizes[RECORDS], sizes[RANGES]), rescue.passed, SIZES);
-    SAME_U(enfys_rescue(given[INPUT], length, given[RECORDS], sizes[RECORDS], given[RANGES], sizes[RANGES]), refusal,
+    lend(INPUT, bytes, length);
+    lend(RECORDS, NULL, sizes[RECORDS]);
+    lend(RANGES, NULL, sizes[RANGES]);
+    refusal = model_rescue(bytes, length, records->wanted, records->size, ranges->wanted, ranges->size, &rescue);
+    SAME_U(enfys_rescue_refusal(input->given, length, records->size, ranges->size), refusal, SIZES);
+    SAME_U(enfys_rescue_kept(input->given, length, records->size, ranges->size), rescue.kept, SIZES);
+    SAME_U(enfys_rescue_ranges(input->given, length, records->size, ranges->size), rescue.ranges, SIZES);
+    SAME_U(enfys_rescue_passed(input->given, length, records->size, ranges->size), rescue.passed, SIZES);
+    SAME_U(enfys_rescue(input->given, length, records->given, records->size, ranges->given, ranges->size), refusal,
            SIZES);
-    for (int b = INPUT; b < BLOCKS; b++)
-        for (size_t i = 0; memcmp(area[b], want[b], sizes[b] + GUARD) != 0; i++)
-            if (area[b][i] != want[b][i])
-                differs(b == INPUT     ? "enfys_rescue, its input"
-                        : b == RECORDS ? "enfys_rescue, the records"
-                                       : "enfys_rescue, the ranges",
-                        text_u64(area[b][i]), text_u64(want[b][i]),
-                        "byte %td, %s: input of %zu bytes, buffers %zu, %zu", area[b] + i - given[b], tried, length,
-                        sizes[RECORDS], sizes[RANGES]);
+    for (int n = INPUT; n < SLICES; n++)
+        if (!as_wanted(n, &at))
+            differs(name[n], text_u64(slices[n].given[at]), text_u64(slices[n].wanted[at]),
+                    "byte %td, %s: input of %zu bytes, buffers %zu, %zu", at, tried, length, sizes[RECORDS],
+                    sizes[RANGES]);
     refused[refusal]++;
     most_kept = rescue.kept > most_kept ? rescue.kept : most_kept;
     most_ranges = rescue.ranges > most_ranges ? rescue.ranges : most_ranges;
-}
-
-/* The size of a buffer that is long enough, or not, for so many bytes. */
-static size_t near(size_t need)
-{
-    switch (below(8)) {
-    case 0:
-        return 0;
-    case 1:
-        return below(need + 1);
-    case 2:
-        return need + 1;
-    case 3:
-        return need + below(100);
-    case 4:
-        return 65536 + below(need + 1); /* enough; its two low bytes by themselves may not be */
-    case 5:
-        return need - (need > 0);
-    default:
-        return need;
-    }
 }
 
 /* Tries the input with buffers of the sizes that it needs, with one or both a byte shorter, and with `more` others. */
 static void each(const char *what, int more)
 {
     struct rescue rescue;
-    size_t sizes[BLOCKS] = {length, ENFYS_RESCUE_RECORDS_BYTES, ENFYS_RESCUE_RANGES_BYTES};
+    size_t sizes[SLICES] = {length, ENFYS_RESCUE_RECORDS_BYTES, ENFYS_RESCUE_RANGES_BYTES};
     size_t records, ranges;
 
     tried = what;
@@ -111,11 +71,11 @@ static void each(const char *what, int more)
         compare(sizes);
     }
     for (int i = 0; i < more; i++) {
-        sizes[RECORDS] = near(records), sizes[RANGES] = near(ranges);
+        sizes[RECORDS] = size_near(records), sizes[RANGES] = size_near(ranges);
         compare(sizes);
         /* without the buffers, their lengths may be any */
-        sizes[RECORDS] = one_in(2) ? (size_t)edge() : near(records);
-        sizes[RANGES] = one_in(2) ? (size_t)edge() : near(ranges);
+        sizes[RECORDS] = one_in(2) ? (size_t)edge() : size_near(records);
+        sizes[RANGES] = one_in(2) ? (size_t)edge() : size_near(ranges);
         SAME_U(enfys_rescue_refusal(bytes, length, sizes[RECORDS], sizes[RANGES]),
                model_rescue(bytes, length, NULL, sizes[RECORDS], NULL, sizes[RANGES], &rescue), SIZES);
         SAME_U(enfys_rescue_kept(bytes, length, sizes[RECORDS], sizes[RANGES]), rescue.kept, SIZES);
@@ -232,7 +192,8 @@ static void far_above(void)
 {
     static const size_t over[] = {0, 30, 60, RESCUE_MOST, RESCUE_MOST + 1};
     uint8_t *many = mmap(NULL, FAR + 2 * RESCUE_MOST, PROT_READ, MAP_PRIVATE | MAP_ANONYMOUS | MAP_NORESERVE, -1, 0);
-    size_t sizes[BLOCKS] = {0, 60, 60};
+    size_t sizes[SLICES] = {0, 60, 60};
+    uint8_t *records = slices[RECORDS].want, *ranges = slices[RANGES].want;
     struct rescue rescue;
 
     if (many == MAP_FAILED) {
@@ -240,14 +201,14 @@ static void far_above(void)
         return;
     }
     tried = "far too many bytes";
-    memcpy(want[RECORDS], noise, 60);
+    memcpy(records, noise, 60);
     for (size_t i = 0; i < sizeof over / sizeof *over; i++) {
         length = FAR + over[i];
-        memcpy(want[RANGES], noise, 60);
+        memcpy(ranges, noise, 60);
         SAME_U(enfys_rescue_refusal(many, length, 60, 60), model_rescue(many, length, NULL, 60, NULL, 60, &rescue),
                SIZES);
-        SAME_U(enfys_rescue(many, length, want[RECORDS], 60, want[RANGES], 60), 25, SIZES);
-        SAME_U(memcmp(want[RECORDS], noise, 60) | memcmp(want[RANGES], noise, 60), 0, SIZES);
+        SAME_U(enfys_rescue(many, length, records, 60, ranges, 60), 25, SIZES);
+        SAME_U(memcmp(records, noise, 60) | memcmp(ranges, noise, 60), 0, SIZES);
         SAME_U(enfys_rescue_kept(many, length, 60, 60), rescue.kept, SIZES);
         SAME_U(enfys_rescue_ranges(many, length, 60, 60), rescue.ranges, SIZES);
         SAME_U(enfys_rescue_passed(many, length, 60, 60), rescue.passed, SIZES);
@@ -318,11 +279,7 @@ int main(int argc, char **argv)
     static const size_t above[] = {RESCUE_MOST + 1, RESCUE_MOST + 2, RESCUE_MOST + 30, 2 * RESCUE_MOST, LONGEST - 100};
 
     begin("rescue", argc, argv);
-    make_noise();
-    for (int b = INPUT; b < BLOCKS; b++) {
-        front[b] = lent_behind(LONGEST + GUARD);
-        back[b] = lent(LONGEST + GUARD);
-    }
+    make_slices();
     by_hand();
     two_lost();
     around_a_record();
