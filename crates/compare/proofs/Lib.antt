@@ -6,3 +6,6 @@ pub mod Steps
 pub mod Entries
 pub mod Writing
 pub mod Answers
+pub mod AtInstants
+pub mod Exchanges
+pub mod Rises

@@ -34,6 +34,13 @@ not-equal a b n = by (equal a b) refl
     by true e = absurd (n (equal-is a b e))
     by false e = refl
 
+pub equal-exchanged : (a b : ℤ) → equal a b ≡ equal b a
+equal-exchanged a b = by (equal b a) refl
+  where
+    by : (t : Bool) → equal b a ≡ t → equal a b ≡ t
+    by true e = ap (λ (z : ℤ). equal a z) (equal-is b a e) ∙ equal-same a
+    by false e = not-equal a b (λ p. true≢false (sym (ap (λ (z : ℤ). equal z a) (sym p) ∙ equal-same a) ∙ e))
+
 -- by their bits
 pub equal-bits : (a b : ℤ) → SFits w32 a → SFits w32 b → eqb (ofZ w32 a) (ofZ w32 b) ≡ equal a b
 equal-bits a b f g = by (ℕ-discrete (ofZ w32 a) (ofZ w32 b))

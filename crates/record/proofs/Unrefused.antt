@@ -1,11 +1,14 @@
--- Bytes that read as a record, with no test left: they are long enough, the record is that of their fields, its instant is accepted, and its day number is small. No refusal of
+-- Bytes that read as a record, with no test left: they are long enough, the record is that of their fields, its instant is accepted, and its numbers fit four bytes. No refusal of
 -- reading has the number 0. Assumes nothing.
-use Prim.Native.Nat.{ℕ, _%_, _≤_}
+use Prim.Native.Nat.{ℕ, _-_, _/_, _%_, _^_, _≤_}
 use mathlib.Core.Path.{_≡_, refl, ap, sym, _∙_}
-use mathlib.Core.Bool.{Bool, true, false, true≢false}
+use mathlib.Core.Bool.{Bool, true, false, cond, true≢false}
 use mathlib.Core.List.{List}
-use lib.IntN.{pos}
+use native.Mathlib.Omega.{arith}
+use lib.Dec.{ltb}
+use lib.IntN.{pos, negsuc}
 use lib.ListN.{length}
+use borrow.Author.Tests.{ltb-true, ltb-false}
 use mir.Syntax.{w32}
 use mir.Val.{SFits}
 use Rattle.instants.specs.Refusals.{firstRefusal}
@@ -15,11 +18,12 @@ use Rattle.instants.proofs.FirstRefusal.{handed-on, none-answered, first-none}
 use Rattle.instants.proofs.Accepted.{accepted}
 use Rattle.clock.specs.Words.{markUnit, joinCases}
 use Rattle.clock.proofs.Words.{was-split, split-accepted, join-then-split}
+use Rattle.bigendian.specs.Numbers.{signedOf}
 use Rattle.bigendian.specs.Fields.{fieldAt}
 use Rattle.record.specs.declared.Record.{Record}
 use Rattle.record.specs.declared.ReadAnswer.{ReadAnswer}
 use Rattle.record.specs.declared.ReadAnswer.the-variants.{IsRecord, NoRecord}
-use Rattle.record.specs.Format.{recordLength, dayField, timeField}
+use Rattle.record.specs.Format.{recordLength, dayField, timeField, ut1Field, lodField, rateField}
 use Rattle.record.specs.Records.{readCases, recordOf, readOf, isRecord, readRefusalOf}
 use Rattle.record.proofs.Forms.{WasRead, was-read}
 use Rattle.record.proofs.Written.{day-fits}
@@ -50,6 +54,14 @@ module _ (s : List ℕ) where
   pub known-record : isRecord (readOf s) ≡ true → readOf s ≡ IsRecord (recordThere s)
   known-record e = unrefused (ap readRefusalOf (is-record (readOf s) e .1))
 
+-- what two's complement in four bytes gives fits them
+signed-fits : (n : ℕ) → SFits w32 (signedOf 4 n)
+signed-fits n = by (ltb n (256 ^ 4 / 2)) refl
+  where
+    by : (b : Bool) → ltb n (256 ^ 4 / 2) ≡ b → SFits w32 (cond b (pos n) (negsuc (256 ^ 4 - 1 - n)))
+    by true p = record { sfits = omega (arith, ltb-true n (256 ^ 4 / 2) p) }
+    by false p = record { sfits = omega (arith, ltb-false n (256 ^ 4 / 2) p) }
+
 module _ (s : List ℕ) (r : Record) (e : readOf s ≡ IsRecord r) where
   w : WasRead s r
   w = was-read s r e
@@ -66,3 +78,7 @@ module _ (s : List ℕ) (r : Record) (e : readOf s ≡ IsRecord r) where
   -- and its day number fits four bytes
   pub read-day-fits : SFits w32 (r .day)
   read-day-fits = day-fits _ _ _ (split-accepted _ _ read-accepted)
+
+  -- and so do the three numbers
+  pub read-numbers-fit : SFits w32 (r .ut1) × SFits w32 (r .lod) × SFits w32 (r .rate)
+  read-numbers-fit = rw (w .is) (signed-fits (fieldAt s ut1Field), signed-fits (fieldAt s lodField), signed-fits (fieldAt s rateField))
