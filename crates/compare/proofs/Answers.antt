@@ -51,6 +51,28 @@ module _ (s t : List ℕ) where
       sym (ap (λ (cs : List Case). refusedOr NoComparison cs (Compared (length (entriesOf s t)))) (sym (append-assoc (fileCases s) (fileCases t) (room n)))
       ∙ (refused-append NoComparison (fileCases s ++ fileCases t) (room n) _ ∙ refused-first NoComparison (fileCases s ++ fileCases t) _ h))
 
+  -- a refusal of 0 says that none applies
+  pub compared-none : (n : ℕ) → firstRefusal (compareCases s t n) ≡ 0 → NoneApplies (compareCases s t n)
+  unfolding room filesRefusal
+  compared-none n z = by (ℕ-discrete (filesRefusal s t) 0)
+    where
+      split : firstRefusal (compareCases s t n) ≡ refusedOr (λ k. k) (fileCases s ++ fileCases t) (firstRefusal (room n))
+      split =
+          ap firstRefusal (sym (append-assoc (fileCases s) (fileCases t) (room n)))
+          ∙ refused-append (λ k. k) (fileCases s ++ fileCases t) (room n) 0
+
+      listed : (b : Bool) → _≡_ {A = ℕ} (cond b 12 0) 0 → b ≡ false
+      listed true e = absurd (omega (arith, e))
+      listed false e = refl
+
+      by : Dec (filesRefusal s t ≡ 0) → NoneApplies (compareCases s t n)
+      by (no h) = absurd (h (sym (refused-first (λ k. k) (fileCases s ++ fileCases t) _ h) ∙ (sym split ∙ z)))
+      by (yes y) =
+          let a = files-unrefused y in
+          let b = none-append (fileCases s) (fileCases t) (a .0) (a .1) in
+          let c = sym (none-answered (λ k. k) (fileCases s ++ fileCases t) _ b) ∙ (sym split ∙ z) in
+          none-append (fileCases s) (fileCases t ++ room n) (a .0) (none-append (fileCases t) (room n) (a .1) (listed _ c, tt))
+
   -- a wrong length has a refusal, and so has a file that is not sound
   pub length-refused : (wrongLength (length s) || wrongLength (length t)) ≡ true → filesRefusal s t ≡ 0 → ⊥
   length-refused e z =

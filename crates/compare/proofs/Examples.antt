@@ -1,0 +1,72 @@
+-- Two files, computed: an instant that the first alone has, one that both have with other numbers, one with the same, and one that the second alone has. So
+-- what is promised of each has a case; and so has each refusal of a file and of a list. Assumes nothing.
+use Prim.Native.Nat.{ℕ}
+use mathlib.Core.Path.{_≡_, refl}
+use mathlib.Core.List.{List, [], _∷_, _++_}
+use lib.IntN.{pos, negsuc}
+use lib.ListN.{length}
+use Rattle.bigendian.specs.Numbers.{wordSum}
+use Rattle.instants.specs.Instants.{outside, dayIndex}
+use Rattle.record.specs.Records.{readOf}
+use Rattle.files.specs.Files.{answersIn, fileCases, IsFile, NoFile, fileOf}
+use Rattle.compare.specs.declared.CompareAnswer.the-variants.{Compared, NoComparison}
+use Rattle.compare.specs.Walk.{entry, walk}
+use Rattle.compare.specs.Compare.{entriesOf, compareOf}
+
+-- ---- records
+
+-- of day 54465, 0 h, with the numbers 1, -1 and 0
+abbrev earlyAlone : List ℕ
+earlyAlone = 0 ∷ 30 ∷ 1 ∷ 0 ∷ 0 ∷ 0 ∷ 212 ∷ 193 ∷ 0 ∷ 0 ∷ 0 ∷ 32 ∷ 0 ∷ 0 ∷ 0 ∷ 0 ∷ 0 ∷ 0 ∷ 0 ∷ 1 ∷ 255 ∷ 255 ∷ 255 ∷ 255 ∷ 0 ∷ 0 ∷ 0 ∷ 0 ∷ 42 ∷ 2 ∷ []
+
+-- a quarter of an hour later, with -2147483648, 5 and 7
+abbrev changedBefore : List ℕ
+changedBefore = 0 ∷ 30 ∷ 1 ∷ 0 ∷ 0 ∷ 0 ∷ 212 ∷ 193 ∷ 0 ∷ 0 ∷ 0 ∷ 32 ∷ 53 ∷ 164 ∷ 233 ∷ 0 ∷ 128 ∷ 0 ∷ 0 ∷ 0 ∷ 0 ∷ 0 ∷ 0 ∷ 5 ∷ 0 ∷ 0 ∷ 0 ∷ 7 ∷ 139 ∷ 81 ∷ []
+
+-- half an hour later, with 4, 4 and 4
+abbrev unchanged : List ℕ
+unchanged = 0 ∷ 30 ∷ 1 ∷ 0 ∷ 0 ∷ 0 ∷ 212 ∷ 193 ∷ 0 ∷ 0 ∷ 0 ∷ 32 ∷ 107 ∷ 73 ∷ 210 ∷ 0 ∷ 0 ∷ 0 ∷ 0 ∷ 4 ∷ 0 ∷ 0 ∷ 0 ∷ 4 ∷ 0 ∷ 0 ∷ 0 ∷ 4 ∷ 236 ∷ 172 ∷ []
+
+-- of the second one's instant, with 2147483647, 5 and 6
+abbrev changedAfter : List ℕ
+changedAfter = 0 ∷ 30 ∷ 1 ∷ 0 ∷ 0 ∷ 0 ∷ 212 ∷ 193 ∷ 0 ∷ 0 ∷ 0 ∷ 32 ∷ 53 ∷ 164 ∷ 233 ∷ 0 ∷ 127 ∷ 255 ∷ 255 ∷ 255 ∷ 0 ∷ 0 ∷ 0 ∷ 5 ∷ 0 ∷ 0 ∷ 0 ∷ 6 ∷ 139 ∷ 84 ∷ []
+
+-- of the next day, 0 h, with 9, 9 and 9
+abbrev lateAlone : List ℕ
+lateAlone = 0 ∷ 30 ∷ 1 ∷ 0 ∷ 0 ∷ 0 ∷ 212 ∷ 194 ∷ 0 ∷ 0 ∷ 0 ∷ 64 ∷ 0 ∷ 0 ∷ 0 ∷ 0 ∷ 0 ∷ 0 ∷ 0 ∷ 9 ∷ 0 ∷ 0 ∷ 0 ∷ 9 ∷ 0 ∷ 0 ∷ 0 ∷ 9 ∷ 41 ∷ 197 ∷ []
+
+-- ---- files
+
+abbrev pub before : List ℕ
+before = earlyAlone ++ (changedBefore ++ unchanged)
+
+abbrev pub after : List ℕ
+after = changedAfter ++ (unchanged ++ lateAlone)
+
+-- one instant twice, and later instants first
+abbrev pub twice : List ℕ
+twice = earlyAlone ++ earlyAlone
+
+-- PROMISE. Three entries: one of each side, in their order.
+pub three-entries : entriesOf before after
+    ≡ entry 1 (pos 54465) 0 (pos 0) (pos 0) (pos 0)
+    ∷ entry 3 (pos 54465) 900_000_000 (pos 4_294_967_295) (pos 0) (negsuc 0)
+    ∷ entry 2 (pos 54466) 0 (pos 0) (pos 0) (pos 0)
+    ∷ []
+unfolding readOf wordSum outside dayIndex answersIn fileCases fileOf walk entriesOf
+three-entries = refl
+
+-- PROMISE. 111 bytes hold them, and 110 do not.
+pub three-fit : (compareOf before after 111 ≡ Compared 3) × (compareOf before after 110 ≡ NoComparison 12)
+unfolding readOf wordSum outside dayIndex answersIn fileCases fileOf walk entriesOf compareOf
+three-fit = (refl, refl)
+
+-- PROMISE. Equal instants are refused, and the first file's refusal comes before the second's.
+pub refused-in-order : (compareOf twice (0 ∷ []) 0 ≡ NoComparison 28) × (compareOf (0 ∷ []) twice 0 ≡ NoComparison 27) × (compareOf before twice 0 ≡ NoComparison 28)
+unfolding readOf wordSum outside dayIndex answersIn fileCases fileOf walk entriesOf compareOf
+refused-in-order = (refl, refl, refl)
+
+-- PROMISE. Two empty files have no entries.
+pub empty-compared : compareOf [] [] 0 ≡ Compared 0
+unfolding answersIn fileCases fileOf walk entriesOf compareOf
+empty-compared = refl
