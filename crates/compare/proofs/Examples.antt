@@ -43,7 +43,11 @@ before = earlyAlone ++ (changedBefore ++ unchanged)
 abbrev pub after : List ℕ
 after = changedAfter ++ (unchanged ++ lateAlone)
 
--- one instant twice, and later instants first
+-- one byte, which is no record
+abbrev pub one-byte : List ℕ
+one-byte = 0 ∷ []
+
+-- one instant twice
 abbrev pub twice : List ℕ
 twice = earlyAlone ++ earlyAlone
 
@@ -62,7 +66,7 @@ unfolding readOf wordSum outside dayIndex answersIn fileCases fileOf walk entrie
 three-fit = (refl, refl)
 
 -- PROMISE. Equal instants are refused, and the first file's refusal comes before the second's.
-pub refused-in-order : (compareOf twice (0 ∷ []) 0 ≡ NoComparison 28) × (compareOf (0 ∷ []) twice 0 ≡ NoComparison 27) × (compareOf before twice 0 ≡ NoComparison 28)
+pub refused-in-order : (compareOf twice one-byte 0 ≡ NoComparison 28) × (compareOf one-byte twice 0 ≡ NoComparison 27) × (compareOf before twice 0 ≡ NoComparison 28)
 unfolding readOf wordSum outside dayIndex answersIn fileCases fileOf walk entriesOf compareOf
 refused-in-order = (refl, refl, refl)
 

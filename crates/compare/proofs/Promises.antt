@@ -12,9 +12,11 @@ use lib.Signed.{ltZ, leZ}
 use Rattle.bigendian.proofs.Buffers.{front-is}
 use Rattle.instants.specs.Refusals.{firstRefusal}
 use Rattle.instants.proofs.Impossible.{impossible}
-use Rattle.instants.proofs.FirstRefusal.{handed-on, none-answered, refused-first}
+use Rattle.instants.proofs.FirstRefusal.{none-both, handed-on, none-answered, refused-first}
 use Rattle.record.specs.declared.Record.{Record}
-use Rattle.files.specs.Files.{FileAnswer, IsFile, NoFile, fileOf, fileCases}
+use Rattle.files.specs.Files.{answersIn, recordsAmong, FileAnswer, IsFile, NoFile, fileOf, fileCases, fileRefusalOf}
+use Rattle.files.specs.Inner.{fileRefusal}
+use Rattle.files.proofs.Refused.{unrefused, file-is}
 use Rattle.files.specs.Claims.{Each, AcceptedRecord}
 use Rattle.files.proofs.Records.{both, file-none, file-rises, file-recorded}
 use Rattle.compare.specs.declared.Entry.{Entry}
@@ -22,6 +24,7 @@ use Rattle.compare.specs.declared.CompareAnswer.{CompareAnswer}
 use Rattle.compare.specs.declared.CompareAnswer.the-variants.{Compared, NoComparison}
 use Rattle.compare.specs.Walk.{entry, equal, sameNumbers, walk}
 use Rattle.compare.specs.Compare.{recordsOf, entriesOf, entryLength, listBytes, compareCases, compareOf, listAfter, entriesNumberOf, compareRefusalOf}
+use Rattle.compare.specs.Inner.{recordsFrom}
 use Rattle.compare.specs.Claims.{Search, There, Nowhere, oneInstant, recordOfInstant, entryOfInstant, exchanged, listed}
 use Rattle.compare.proofs.Numbers.{equal-same, equal-is}
 use Rattle.compare.proofs.Entries.{list-length}
@@ -115,6 +118,21 @@ entries-exchanged s t = walk-exchanged (recordsOf (fileOf s)) (recordsOf (fileOf
 pub entries-same : (s : List ℕ) → entriesOf s s ≡ []
 unfolding entriesOf
 entries-same s = walk-same (recordsOf (fileOf s))
+
+-- PROMISE. A file and itself are answered with no entry, whatever the list's room.
+pub same-compared : (s : List ℕ) (n : ℕ) → fileRefusalOf (fileOf s) ≡ 0 → compareOf s s n ≡ Compared 0
+unfolding fileOf fileRefusal
+same-compared s n z =
+    let a = unrefused s (sym (handed-on NoFile fileRefusalOf (λ k. refl) (fileCases s) _) ∙ z) in
+    let e : length (walk (recordsFrom s 0) (recordsFrom s 0)) ≡ 0 = ap length (walk-same (recordsFrom s 0)) in
+    sym (long-enough s s a a n (omega (arith, e))) ∙ ap Compared e
+
+-- PROMISE. What is answered without a refusal are two files.
+pub compared-files : (s t : List ℕ) (n : ℕ) → compareRefusalOf (compareOf s t n) ≡ 0
+    → (fileOf s ≡ IsFile (recordsAmong (answersIn s))) × (fileOf t ≡ IsFile (recordsAmong (answersIn t)))
+compared-files s t n z =
+    let c = none-both (fileCases s) _ (compared-none s t n (sym (compare-refusal s t n) ∙ z)) in
+    (file-is s (c .0), file-is t (none-both (fileCases t) _ (c .1) .0))
 
 module _ (s t : List ℕ) (rs qs : List Record) (a : fileOf s ≡ IsFile rs) (b : fileOf t ≡ IsFile qs) where
   -- PROMISE. The entries are those of the walk over the records.

@@ -41,8 +41,10 @@ use Rattle.run.specs.Run.{runCases, runRefusal}
 use Rattle.run.proofs.Records as records
 use Rattle.rescue.specs.Rescue.{keptCount, rangesIn}
 use Rattle.rescue.proofs.Promises.{rescue-refusal, rescue-zeroed, rescue-keeps}
+use Rattle.compare.proofs.Promises.{compare-zeroed, compare-keeps}
 use Rattle.row_bytes.specs.Form.{bytesCases}
 use Rattle.promises.proofs.Angles.{angles, angles-same, angles-zeroed, angles-kept}
+use Rattle.promises.proofs.Files.{compare}
 use Rattle.promises.proofs.Rows.{handed-rows, rows-offsets}
 use Rattle.promises.proofs.Utc.{handed-readings, utc-to-tt, phase, handed-instants, tt-to-utc}
 use Rattle.promises.specs.AnyInput.{Number, AnyInputIsAnswered}
@@ -199,4 +201,7 @@ any-input-is-answered = record {
   angles-same = angles-same;
   angles-zeroed = angles-zeroed;
   angles-kept = angles-kept;
+  compare = compare;
+  compare-zeroed = compare-zeroed;
+  compare-keeps = compare-keeps;
 }

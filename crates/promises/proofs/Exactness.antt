@@ -52,6 +52,7 @@ use Rattle.promises.specs.AnyInput.{daysWithSecond60}
 use Rattle.promises.proofs.Utc.{eves}
 use Rattle.promises.proofs.Rescued.{rescued-exactly}
 use Rattle.promises.proofs.Angles.{angles-exactly}
+use Rattle.promises.proofs.Compared.{compared-exactly}
 use Rattle.promises.specs.Exactness.{KeepsRules, Exactness}
 
 -- ---- some readings and instants, computed
@@ -161,4 +162,5 @@ exactness = record {
   before-and-after = before-and-after;
   rescued = rescued-exactly;
   angles = angles-exactly;
+  compared = compared-exactly;
 }

@@ -1,9 +1,11 @@
--- AnyInput, Exactness, Distance: a proof of each demand, from the theorems of the services; Rescued and Angles are the parts of Exactness on
--- services (i) and (j). Utc, Rows and Angles: refusals in the figures of AnyInput.
+-- AnyInput, Exactness, Distance: a proof of each demand, from the theorems of the services; Rescued, Angles and Compared are the parts of Exactness on
+-- services (i), (j) and (k). Utc, Rows, Angles and Files: refusals in the figures of AnyInput.
 pub mod Utc
 pub mod Rows
 pub mod Angles
+pub mod Files
 pub mod AnyInput
 pub mod Rescued
+pub mod Compared
 pub mod Exactness
 pub mod Distance

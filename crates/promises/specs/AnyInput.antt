@@ -2,9 +2,9 @@
 -- the call of one number gives 0, the call of the whole answer leaves every number as it stood, and no lent byte changes; without one the whole answer
 -- leaves the numbers that their own calls give. That each exported call gives these for every input is its contract (crates/enfysgar/src).
 -- The rules are written out here a second time, with their figures and apart from the lists and limits of the definitions (the length of a month, the
--- mark, numbers and sums in bytes, that some row of a table has a fault, a later day, and what a rescue keeps and passes are theirs): first when each
--- refusal is given, then for each service its refusals in their order.
-use Prim.Native.Nat.{ℕ, _+_, _-_, _*_, _/_, _%_}
+-- mark, numbers and sums in bytes, that some row of a table has a fault, a later day, what a rescue keeps and passes, what reading a record of a file gives
+-- and the entries of a comparison are theirs): first when each refusal is given, then for each service its refusals in their order.
+use Prim.Native.Nat.{ℕ, suc, _+_, _-_, _*_, _/_, _%_}
 use mathlib.Core.Path.{_≡_}
 use mathlib.Core.Bool.{Bool, cond, not, _&&_, _||_}
 use mathlib.Core.List.{List, [], _∷_, _++_}
@@ -12,7 +12,7 @@ use lib.Dec.{ltb, leb, eqb}
 use lib.IntN.{ℤ, pos, negℤ}
 use lib.Ieee as Ieee
 use lib.Ieee.{Float}
-use lib.ListN.{length}
+use lib.ListN.{length, drop}
 use lib.Signed.{ltZ, leZ}
 use Rattle.instants.specs.Refusals.{Case, case, firstRefusal}
 use Rattle.instants.specs.Instants.{laterDay}
@@ -36,6 +36,10 @@ use Rattle.nutation.specs.Ours as nutation
 use Rattle.bigendian.specs.Numbers.{numberAt, wordSum, signedOf}
 use Rattle.rows.specs.Table.{someBelow}
 use Rattle.record.specs.Records.{writeRefusal, written, readOf, recordDayOf, recordDayOr, recordMicrosOf, recordMicrosOr, recordUt1Of, recordUt1Or, recordLodOf, recordLodOr, recordRateOf, recordRateOr, readRefusalOf}
+use Rattle.record.specs.declared.ReadAnswer.{ReadAnswer}
+use Rattle.files.specs.Claims.{holdsBelow, casesBelow}
+use Rattle.compare.specs.Compare as compared
+use Rattle.compare.specs.Compare.{entriesOf, compareOf, entriesNumberOf, compareRefusalOf}
 use Rattle.run.specs.Run.{runRefusal, runWritten}
 use Rattle.rescue.specs.Walk.{walk, rangesOf}
 use Rattle.rescue.specs.Rescue.{rescueOf, recordsAfter, listAfter, keptOf, rangesNumberOf, passedOf, rescueRefusalOf}
@@ -215,6 +219,29 @@ refusal1-angles y = case 1 (ltb y 1974 || ltb 2100 y)
 abbrev pub refusal26 : ℕ → Float → Case
 refusal26 y d = case 26 (not (Ieee.le (whole (pos 1)) d && Ieee.lt d (whole (pos (cond (eqb (y % 4) 0 && not (eqb y 2100)) 367 366)))))
 
+-- what reading record k of a file gives, counted from 0
+abbrev pub readAt : List ℕ → ℕ → ReadAnswer
+readAt s k = readOf (drop (30 * k) s)
+
+-- a file's length: no multiple of thirty, or above 65,520
+abbrev pub refusal27 : List ℕ → Case
+refusal27 s = case 27 (not (eqb (length s % 30) 0) || ltb 65520 (length s))
+
+-- the refusals of reading its records, one after the other
+abbrev pub refusals-reading : List ℕ → List Case
+refusals-reading s = casesBelow (length s / 30) (λ k. case (readRefusalOf (readAt s k)) (not (eqb (readRefusalOf (readAt s k)) 0)))
+
+-- a record whose instant is not before that of the next
+abbrev pub notBefore : ReadAnswer → ReadAnswer → Bool
+notBefore a b = not (instantBefore (recordDayOf a) (recordMicrosOf a) (recordDayOf b) (recordMicrosOf b))
+
+abbrev pub refusal28 : List ℕ → Case
+refusal28 s = case 28 (holdsBelow (length s / 30 - 1) (λ k. notBefore (readAt s k) (readAt s (suc k))))
+
+-- the refusals of a file
+abbrev pub fileRefusals : List ℕ → List Case
+fileRefusals s = refusal27 s ∷ (refusals-reading s ++ refusal28 s ∷ [])
+
 -- ---- the demand: each service by its list, its numbers, bytes that stay
 
 -- One number of the answer a: `value a` is what its own call gives, and `left old a` what the call of the whole answer leaves where `old` stood.
@@ -317,3 +344,8 @@ pub record AnyInputIsAnswered : Type 0 where
   pub angles-same : (y : ℕ) (d : Float) → anglesRefusalOf (schwiderskiOf y d) ≡ 0 → (old : List Float) → anglesOr old (schwiderskiOf y d) ≡ eleven (schwiderskiOf y d)
   pub angles-zeroed : (y : ℕ) (d : Float) → (anglesRefusalOf (schwiderskiOf y d) ≡ 0 → ⊥) → (which : Angles → Float) → angleOf which (schwiderskiOf y d) ≡ zero64
   pub angles-kept : (y : ℕ) (d : Float) → (anglesRefusalOf (schwiderskiOf y d) ≡ 0 → ⊥) → (old : List Float) → anglesOr old (schwiderskiOf y d) ≡ old
+  -- (k) comparison: the first file's refusals, the second's, and that of the list
+  pub compare : (s t : List ℕ) (n : ℕ) → compareRefusalOf (compareOf s t n)
+      ≡ firstRefusal (fileRefusals s ++ (fileRefusals t ++ refusal12 n (37 * length (entriesOf s t)) ∷ []))
+  pub compare-zeroed : (s t : List ℕ) (n : ℕ) → (compareRefusalOf (compareOf s t n) ≡ 0 → ⊥) → entriesNumberOf (compareOf s t n) ≡ 0
+  pub compare-keeps : (s t list : List ℕ) → (compareRefusalOf (compareOf s t (length list)) ≡ 0 → ⊥) → compared.listAfter s t list ≡ list

@@ -1,5 +1,5 @@
 -- Demand 2: exactness. Dates each way; frequency and phase; records read back; clock words joined exactly when they are of one day; rows from the caller
--- read as they were written; the lookup of rows, and the number of its probes; UTC readings and instants each way; records rescued.
+-- read as they were written; the lookup of rows, and the number of its probes; UTC readings and instants each way; records rescued; angles; record files compared.
 use Prim.Native.Nat.{ℕ, suc, _+_, _*_, _-_, _/_, _^_, _≤_, _<_}
 use mathlib.Core.Path.{_≡_}
 use mathlib.Core.Bool.{false}
@@ -31,6 +31,7 @@ use Rattle.utc.specs.declared.ReadingAnswer.the-variants.{AtReading, NoReading}
 use Rattle.promises.specs.AnyInput.{daysWithSecond60}
 use Rattle.promises.specs.Rescued.{RescuedExactly}
 use Rattle.promises.specs.Angles.{AnglesExactly}
+use Rattle.promises.specs.Compared.{ComparedExactly}
 use Rattle.clock.specs.Words.{words, timeWord, splitOf, joinOf}
 use Rattle.clock.specs.declared.SplitAnswer.the-variants.{Split}
 use Rattle.clock.specs.declared.JoinAnswer.the-variants.{Joined, NoJoin}
@@ -179,3 +180,5 @@ pub record Exactness : Type 0 where
   pub rescued : RescuedExactly
   -- (j) angles (Angles.antt)
   pub angles : AnglesExactly
+  -- (k) comparison (Compared.antt)
+  pub compared : ComparedExactly
