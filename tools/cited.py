@@ -1,5 +1,5 @@
 #!/usr/bin/env python3
-"""Eight documents (DOCUMENTS) cite only what exists, and all of what they should; links of README.md and docs/ lead somewhere.
+"""Nine documents (DOCUMENTS) cite only what exists, and all of what they should; links of README.md and docs/ lead somewhere.
 
     tools/cited.py [ROOT] [--self-test]
 
@@ -14,8 +14,9 @@ from functools import lru_cache
 from fnmatch import fnmatchcase
 from pathlib import Path
 
-DOCUMENTS = ["PROMISES", "RULES", "DECISIONS", "WRONG_PROGRAMS", "WRONG_ROWS", "WRONG_RESCUE", "WRONG_TIDES", "WRONG_CALLS"]
-APART = {"WRONG_ROWS": ("rows/", "row_bytes/", "row_places/", "nutation/"), "WRONG_RESCUE": ("rescue/", "rescue_lines/"), "WRONG_TIDES": ("binary64/", "tide/", "schwiderski/")}
+DOCUMENTS = ["PROMISES", "RULES", "DECISIONS", "WRONG_PROGRAMS", "WRONG_ROWS", "WRONG_RESCUE", "WRONG_TIDES", "WRONG_COMPARE", "WRONG_CALLS"]
+APART = {"WRONG_ROWS": ("rows/", "row_bytes/", "row_places/", "nutation/"), "WRONG_RESCUE": ("rescue/", "rescue_lines/"), "WRONG_TIDES": ("binary64/", "tide/", "schwiderski/"),
+         "WRONG_COMPARE": ("files/", "compare/", "promises/compare_")}
 # words in backticks that are no names of ours: keywords, the C library's, the kit's, what the program writes, placeholders
 NO_NAMES = {"requires", "fmod", "must-fail", "RT_JOBS", "refused", "count", "NoX", "_"}
 # folders that are made or installed, and not kept

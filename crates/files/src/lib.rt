@@ -105,9 +105,9 @@ pub fn refusal(s: &[u8]) -> u32
     if sound(s) {
         return 0;
     }
-    let n = reading_refusal(s);
-    if n != 0 {
-        return n;
+    let first = reading_refusal(s);
+    if first != 0 {
+        return first;
     }
     28
 }

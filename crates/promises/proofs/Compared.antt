@@ -27,8 +27,8 @@ compared-exactly = record {
   files-exchanged = entries-exchanged;
   number-returned = compare-number;
   list-written = compare-list;
-  list-reads-back = λ s t rs qs f. entries-read-back s t rs qs (f .first) (f .second);
-  always-room = λ s t rs qs f. entries-room s t rs qs (f .first) (f .second);
+  entries-read-back = λ s t rs qs f. entries-read-back s t rs qs (f .first) (f .second);
+  list-always-room = λ s t rs qs f. entries-room s t rs qs (f .first) (f .second);
   some-files = (before, after, three-entries, three-fit .0, three-fit .1);
   some-refused = (twice, one-byte, refused-in-order .0, refused-in-order .1);
 }

@@ -58,9 +58,9 @@ pub record ComparedExactly : Type 0 where
   pub list-written : (s t list : List ℕ) → compareRefusalOf (compareOf s t (length list)) ≡ 0
       → listAfter s t list ≡ listBytes (entriesOf s t) ++ drop (37 * length (entriesOf s t)) list
   -- the entries read back from the list, whatever is behind them
-  pub list-reads-back : (s t : List ℕ) (rs qs : List Record) → Files s t rs qs → (behind : List ℕ) → listed (length (entriesOf s t)) (listBytes (entriesOf s t) ++ behind) ≡ entriesOf s t
+  pub entries-read-back : (s t : List ℕ) (rs qs : List Record) → Files s t rs qs → (behind : List ℕ) → listed (length (entriesOf s t)) (listBytes (entriesOf s t) ++ behind) ≡ entriesOf s t
   -- 161,616 bytes hold every list
-  pub always-room : (s t : List ℕ) (rs qs : List Record) → Files s t rs qs → (n : ℕ) → 161616 ≤ n → compareRefusalOf (compareOf s t n) ≡ 0
+  pub list-always-room : (s t : List ℕ) (rs qs : List Record) → Files s t rs qs → (n : ℕ) → 161616 ≤ n → compareRefusalOf (compareOf s t n) ≡ 0
   -- there are such files: with an entry of each side, a difference that 32 bits do not hold, and room for them or a byte less; and a file with one instant twice
   -- is refused before a second file of one byte, and after it
   pub some-files : (s : List ℕ) × (t : List ℕ)

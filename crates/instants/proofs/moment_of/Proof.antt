@@ -34,7 +34,7 @@ cast-moment : tie.Need-cast-moment
 cast-moment c = rw (reads c) (tt, record { fits = omega (arith, covered c) })
 
 moment-requires : tie.Need-moment-requires
-moment-requires c κs = (rw (reads c) (covered c), at c .less)
+moment-requires c κs = (rw (reads c) (covered c), omega (arith, at c .less))
 
 returns : tie.Need-returns
 returns c = let s = c .before in c .moment .ensures ∙ ap (λ (z : ℤ). moment (natAbs z) (s .args .micros)) (reads s)
