@@ -83,9 +83,12 @@ static struct row {
     {"rescue: clean, against loads of eight bytes", rescue_clean, rescue_clean_loads, 0, CLEAN_BYTES, 0, 0},
     {"rescue: damaged, against the same", rescue_damaged, rescue_damaged_loads, 0, CLEAN_BYTES, 0, 0},
     {"rescue: noise, against memchr", rescue_noise, rescue_noise_memchr, 0, ENFYS_RESCUE_MOST, 0, 0},
-    {"comparison: equal files of 2184 records", compare_equal, compare_equal_plain, 1.5, PAIR_BYTES, 0, 0},
-    {"comparison: other numbers everywhere", compare_changed, compare_changed_plain, 1.5, PAIR_BYTES, 0, 0},
-    {"comparison: no instant in common", compare_between, compare_between_plain, 1.5, PAIR_BYTES, 0, 0},
+    {"comparison: equal files of 2184 records", compare_equal, compare_equal_plain, 0.6, PAIR_BYTES, 0, 0},
+    {"comparison: other numbers everywhere", compare_changed, compare_changed_plain, 0.85, PAIR_BYTES, 0, 0},
+    {"comparison: no instant in common", compare_between, compare_between_plain, 0.85, PAIR_BYTES, 0, 0},
+    {"comparison: equal, against loads of 8 bytes", compare_equal, compare_equal_loads, 0, PAIR_BYTES, 0, 0},
+    {"comparison: other numbers, against the same", compare_changed, compare_changed_loads, 0, PAIR_BYTES, 0, 0},
+    {"comparison: none in common, against the same", compare_between, compare_between_loads, 0, PAIR_BYTES, 0, 0},
 };
 
 #define ROWS (sizeof rows / sizeof *rows)
@@ -106,15 +109,6 @@ static void rounds_of(struct row *r)
         if (r->best_other == 0 || y < r->best_other)
             r->best_other = y;
     }
-}
-
-static uint64_t next(void)
-{
-    static uint64_t x = 88172645463325252;
-
-    x ^= x << 13;
-    x ^= x >> 7;
-    return x ^= x << 17;
 }
 
 /* The bytes of some rows. */
@@ -160,25 +154,6 @@ static void make_images(void)
         for (int i = 0; i < ENFYS_RESCUE_MOST; i++)
             noise[n][i] = (uint8_t)(next() >> 56);
     }
-}
-
-/* The files that are compared: a record every half hour. */
-static void make_files(void)
-{
-    for (int n = 0; n < PAIRS; n++)
-        for (int i = 0; i < ENFYS_COMPARE_MOST / RECORD_BYTES; i++) {
-            struct record r = {{16000 + 7 * n + i / 48, (uint64_t)(i % 48) * 2 * STEP}, {0, 0, 0}};
-            const int at = RECORD_BYTES * i;
-
-            for (int k = 0; k < 3; k++)
-                r.number[k] = (int32_t)(next() % 200000000) - 100000000;
-            model_write(&r, file[n] + at, RECORD_BYTES);
-            model_write(&r, equal[n] + at, RECORD_BYTES);
-            r.number[next() % 3] += 1 + (int32_t)(next() % 100);
-            model_write(&r, changed[n] + at, RECORD_BYTES);
-            r.at.micros += STEP;
-            model_write(&r, between[n] + at, RECORD_BYTES);
-        }
 }
 
 static void make_inputs(void)
@@ -287,16 +262,22 @@ static int same_rescues(void)
     return wrong == 0;
 }
 
-/* Whether plain_compare.h and the library list the same of two files, to the last byte of a list of this size. */
+/* Whether the library and both of plain_compare.h list the same of two files, to the last byte of a list of this size.
+ */
 static int same_comparison(const uint8_t *first, size_t first_length, const uint8_t *second, size_t second_length,
                            size_t size)
 {
-    static uint8_t list[2][sizeof entries];
+    static compare_call *const call[3] = {enfys_compare, compare_plain, compare_plain_loads};
+    static uint8_t list[3][sizeof entries];
+    uint32_t refusal[3];
+    int same = 1;
 
     memset(list, 1, sizeof list);
-    return enfys_compare(first, first_length, second, second_length, list[0], size) ==
-               compare_plain(first, first_length, second, second_length, list[1], size) &&
-           memcmp(list[0], list[1], sizeof entries) == 0;
+    for (int i = 0; i < 3; i++) {
+        refusal[i] = call[i](first, first_length, second, second_length, list[i], size);
+        same &= refusal[i] == refusal[0] && memcmp(list[i], list[0], sizeof entries) == 0;
+    }
+    return same;
 }
 
 /* The same for all files, for parts of them with a bit changed, and for lists and files that are cut. */

@@ -661,7 +661,10 @@ uint32_t enfys_schwiderski_refusal(uint64_t year, double day);
  * (k) What enfys_compare does with these files and a list of so many bytes, without
  * the list: how many entries it writes, none beside a refusal, and its refusal. With
  * SIZE_MAX for list_length they say how long the list has to be:
- * ENFYS_COMPARE_ENTRY_BYTES for each entry.
+ * ENFYS_COMPARE_ENTRY_BYTES for each entry. Each call walks over both files once, to
+ * test them and to count. enfys_compare does so too and walks again to write, as far
+ * as the last entry: for equal files not at all. For the number of a file that is
+ * refused a call goes over each file at most twice more.
  */
 uint64_t enfys_compare_entries(const uint8_t *first, size_t first_length,
                                const uint8_t *second, size_t second_length,
