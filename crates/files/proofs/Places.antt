@@ -9,7 +9,7 @@ use native.Mathlib.Decide.{decLe}
 use mathlib.Core.Logic.{_⊎_, inl, inr}
 use lib.Dec.{ltb}
 use lib.ListN.{length, drop}
-use borrow.Author.Tests.{ltb-true, lt-ltb}
+use borrow.Author.Tests.{ltb-true, lt-ltb, le-ltb}
 use Rattle.instants.proofs.Moments.{accepted-le}
 use Rattle.record.specs.declared.Record.{Record}
 use Rattle.record.specs.declared.ReadAnswer.{ReadAnswer}
@@ -147,3 +147,21 @@ module _ (s : List ℕ) (i t : ℕ) where
 
     pub known-there : momentIn 0 (readOf (drop i s)) ≡ nextMoment t (answersFrom s i)
     known-there = read .1 ∙ moment-there h
+
+-- of an answer that is no record, and of one whose moment is m
+pub moment-unread : (t : ℕ) (x : ReadAnswer) → isRecord x ≡ false → unsound ≡ momentIn t x
+moment-unread t (NoRecord n) e = refl
+moment-unread t (IsRecord r) e = absurd (true≢false e)
+
+module _ (t m : ℕ) where
+  pub moment-early : (x : ReadAnswer) → isRecord x ≡ true → m ≡ momentIn 0 x → m ≤ t → unsound ≡ momentIn t x
+  moment-early (NoRecord n) e p h = absurd (true≢false (sym e))
+  moment-early (IsRecord r) e p h =
+      let q : m ≡ when r = p ∙ rw (after-zero r) refl in
+      sym (rw (le-ltb t (when r) (omega (arith, q))) refl)
+
+  pub moment-later : (x : ReadAnswer) → isRecord x ≡ true → m ≡ momentIn 0 x → t < m → m ≡ momentIn t x
+  moment-later (NoRecord n) e p h = absurd (true≢false (sym e))
+  moment-later (IsRecord r) e p h =
+      let q : m ≡ when r = p ∙ rw (after-zero r) refl in
+      q ∙ sym (rw (lt-ltb t (when r) (omega (arith, q))) refl)

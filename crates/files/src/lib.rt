@@ -24,29 +24,27 @@ pub fn wrong_length(n: usize) -> bool
     (n % LENGTH != 0) | (MOST_BYTES < n)
 }
 
-// The moment of the record that the front of s is, which is to be after `last`.
-fn moment_in(s: &[u8], last: u64) -> u64
-    ensures { λ r. ⌜ r ≡ momentIn last (readOf (now (s .entry))) ⌝ }
-{
-    match record::read(s) {
-        ReadAnswer::NoRecord(_) => UNSOUND,
-        ReadAnswer::IsRecord(r) => {
-            let t = instants::moment_of(r.day, r.micros);
-            if t <= last {
-                return UNSOUND;
-            }
-            t
-        }
-    }
-}
-
-// The same of a record that is known to read, with nothing tested.
+// The moment of the record that the front of s is, where it is known to read as one.
 fn known_moment(s: &[u8]) -> u64
     requires { ⌜ isRecord (readOf (now s)) ≡ true ⌝ }
     ensures { λ r. ⌜ r ≡ momentIn 0 (readOf (now (s .entry))) ⌝ }
 {
     let r = record::known(s);
     instants::moment_of(r.day, r.micros)
+}
+
+// The same of a record that is to read, and to be after `last`.
+fn moment_in(s: &[u8], last: u64) -> u64
+    ensures { λ r. ⌜ r ≡ momentIn last (readOf (now (s .entry))) ⌝ }
+{
+    if !record::reads(s) {
+        return UNSOUND;
+    }
+    let t = known_moment(s);
+    if t <= last {
+        return UNSOUND;
+    }
+    t
 }
 
 // The moment of the record at a place of s, which is to be after `last`, or `END`. Where the records from there on are known to be sound, none is tested.

@@ -1,69 +1,33 @@
 -- `files::moment_in` meets its contract: no record, one that is not after `last`, or one that is. Assumes nothing.
-use mathlib.Core.Path.{_≡_, refl, ap, sym, _∙_}
+use mathlib.Core.Path.{_≡_, sym, _∙_}
+use mathlib.Core.Bool.{true}
 use denote.Ref.{now}
-use lib.IntN.{ℤ}
-use mir.Syntax.{w64}
-use mir.Val.{SFits}
-use mir.Facts.{toZ-ofZ}
-use borrow.Author.Tests.{lt-ltb, le-ltb}
-use native.Mathlib.Omega.{arith}
-use Rattle.instants.specs.Moments.{momentOf}
-use Rattle.record.specs.declared.Record.{Record}
-use Rattle.record.specs.declared.ReadAnswer.the-variants.{IsRecord}
-use Rattle.record.specs.Records.{readOf}
-use Rattle.record.proofs.Unrefused.{read-accepted}
-use Rattle.files.specs.Files.{when}
-use Rattle.files.specs.Inner.{momentIn}
+use borrow.Author.Tests.{not-true, not-false}
+use Rattle.record.specs.Records.{readOf, isRecord}
+use Rattle.files.proofs.Places.{moment-unread, moment-early, moment-later}
 use borrow.Author.Needs.{needs}
 use Rattle.files.proofs.moment_in.Statement.{statement}
 use Rattle.files.proofs.moment_in.Tie as tie
 
--- the record, where there is one
-module _ (c : tie.After-r) where
-  abbrev it : Record
-  it = c .r .given .0 .0
+-- what reads is a record
+reads : (c : tie.Else1) → isRecord (readOf (now (c .before .before .before .args .s))) ≡ true
+reads c = sym (c .before .reads .ensures) ∙ not-false _ (c .if1 .left)
 
-  abbrev start : tie.Start
-  start = c .before .before .before .before
-
-  reads : readOf (now (start .args .s)) ≡ IsRecord it
-  reads = sym (c .before .before .read .ensures) ∙ c .r .given .1
-
-fits : (c : tie.After-struct-told) → SFits w64 (it (c .before .before) .day)
-fits c = search needs
-
--- and its moment
-is : (c : tie.After-moment-of) → c .moment-of .result ≡ when (it (c .before .before .before))
-is c = c .moment-of .ensures ∙ ap (λ (z : ℤ). momentOf z (it (c .before .before .before) .micros)) (toZ-ofZ (fits (c .before)))
-
-read-requires : tie.Need-read-requires
-read-requires c κs = search needs
-
-enum-told : tie.Need-enum-told
-enum-told c = search needs
-
-enum-known-r : tie.Need-enum-known-r
-enum-known-r c = search needs
-
-moment-of-requires : tie.Need-moment-of-requires
-moment-of-requires c κs = let r : tie.After-r = c .before .before in rw (toZ-ofZ (fits c)) (read-accepted _ _ (reads r))
+reads-requires : tie.Need-reads-requires
+reads-requires c κs = search needs
 
 returns : tie.Need-returns
-returns c =
-    let r : tie.After-r = c .before .before .before .before in
-    sym (ap (momentIn (start r .args .last)) (reads r) ∙ rw (le-ltb (start r .args .last) (when (it r)) (omega (arith, is (c .before), c .if1 .taken))) refl)
+returns c = let a = c .before .before .before .args in moment-unread (a .last) (readOf (now (a .s))) (sym (c .before .reads .ensures) ∙ not-true _ (c .if1 .taken))
+
+known-moment-requires : tie.Need-known-moment-requires
+known-moment-requires c κs = reads c
 
 returns-2 : tie.Need-returns-2
-returns-2 c =
-    let n = c .before .before in
-    sym (ap (momentIn (n .before .before .args .last)) (sym (n .read .ensures) ∙ c .enum-told .given .1))
+returns-2 c = let k = c .before in let a = k .before .before .before .before .args in moment-early (a .last) _ (readOf (now (a .s))) (reads (k .before)) (k .known-moment .ensures) (c .if2 .taken)
 
 returns-3 : tie.Need-returns-3
-returns-3 c =
-    let r : tie.After-r = c .before .before .before .before in
-    is (c .before) ∙ sym (ap (momentIn (start r .args .last)) (reads r) ∙ rw (lt-ltb (start r .args .last) (when (it r)) (omega (arith, is (c .before), c .if1 .left))) refl)
+returns-3 c = let k = c .before in let a = k .before .before .before .before .args in moment-later (a .last) _ (readOf (now (a .s))) (reads (k .before)) (k .known-moment .ensures) (c .if2 .left)
 
 pub moment-in-spec : {M : Type 1} → statement M
 moment-in-spec =
-    tie.close
-    (tie.spec read-requires enum-told enum-known-r moment-of-requires returns returns-2 returns-3)
+    tie.close (tie.spec reads-requires returns known-moment-requires returns-2 returns-3)
