@@ -146,9 +146,9 @@ static int compare(void)
            "rate, 1e-20 rad/s");
     for (uint64_t i = 0; i < entries; i++)
         of_side[show(list + ENFYS_COMPARE_ENTRY_BYTES * i)]++;
-    printf("%" PRIu64 " instants: %" PRIu64 " in the first file only, %" PRIu64 " in the second only, %" PRIu64
+    printf("%" PRIu64 " instant%s: %" PRIu64 " in the first file only, %" PRIu64 " in the second only, %" PRIu64
            " in both; differences are second minus first\n",
-           entries, of_side[1], of_side[2], of_side[3]);
+           entries, entries == 1 ? "" : "s", of_side[1], of_side[2], of_side[3]);
     return 1;
 }
 

@@ -104,7 +104,7 @@ def expected(names, first, second, mistake=None):
         return 0, b"no difference\n", b""
     sides = [sum(entry[0] == side for entry in found) for side in (1, 2, 3)]
     text = [f"{'date and time (TT)':<26} in file     {'UT1, ns':>11} day length, ps rate, 1e-20 rad/s\n", *(line(*entry, mistake) for entry in found),
-            f"{len(found)} instants: {sides[0]} in the first file only, {sides[1]} in the second only, {sides[2]} in both; "
+            f"{len(found)} instant{'s'[len(found) == 1:]}: {sides[0]} in the first file only, {sides[1]} in the second only, {sides[2]} in both; "
             "differences are second minus first\n"]
     return (0 if mistake == "status 0" else 1), "".join(text).encode(), b""
 
