@@ -13,11 +13,10 @@ use Rattle.instants.specs.Refusals.{Case, case, refusedOr, firstRefusal}
 use Rattle.instants.proofs.Accepted.{both-false}
 use Rattle.instants.proofs.Impossible.{impossible}
 use Rattle.instants.proofs.FirstRefusal.{NoneApplies, none-both, none-append, refused-append, refused-first, refused-alike, none-answered, answered-none}
-use Rattle.files.specs.Files.{FileAnswer, IsFile, fileOf, fileCases, wrongLength}
+use Rattle.files.specs.Files.{FileAnswer, fileCases, wrongLength}
 use Rattle.files.specs.Inner.{sound, fileRefusal}
 use Rattle.files.proofs.Refused.{none-applies, applies-none, unrefused, file-is, file-short, records-few}
 use Rattle.compare.specs.declared.Entry.{Entry}
-use Rattle.compare.specs.declared.Count.{Count}
 use Rattle.compare.specs.declared.Count.the-variants.{Entries, NoCount}
 use Rattle.compare.specs.declared.CompareAnswer.the-variants.{Compared, NoComparison}
 use Rattle.compare.specs.Walk.{walk}

@@ -1,12 +1,12 @@
 -- What is listed at an instant: by induction over the walk. In a rising file no record behind a moment is of an earlier instant or of that one; two records
 -- of one moment are of one instant. Assumes nothing.
-use Prim.Native.Nat.{ℕ, zero, suc, _≤_, _<_}
+use Prim.Native.Nat.{ℕ, _≤_, _<_}
 use mathlib.Core.Path.{_≡_, refl, ap, ap₂, sym, _∙_}
-use mathlib.Core.Bool.{Bool, true, false, cond, _&&_, true≢false}
+use mathlib.Core.Bool.{Bool, true, false, cond}
 use mathlib.Core.List.{List, [], _∷_, _++_}
 use native.Mathlib.Omega.{arith}
-use lib.Dec.{eqb, ltb}
-use lib.IntN.{ℤ, pos, _-ℤ_}
+use lib.Dec.{eqb}
+use lib.IntN.{ℤ}
 use borrow.Author.Tests.{eqb-true, eq-eqb, ltb-true, lt-ltb}
 use Rattle.instants.specs.Moments.{momentOf}
 use Rattle.record.specs.declared.Record.{Record}
@@ -15,7 +15,7 @@ use Rattle.files.specs.Claims.{Each, AcceptedRecord}
 use Rattle.files.proofs.Order.{moment-one}
 use Rattle.files.proofs.Records.{both}
 use Rattle.compare.specs.declared.Entry.{Entry}
-use Rattle.compare.specs.Walk.{entry, firstOnly, secondOnly, inBoth, alone, changed, equal, sameNumbers, differing, walk}
+use Rattle.compare.specs.Walk.{firstOnly, secondOnly, alone, changed, equal, sameNumbers, differing, walk}
 use Rattle.compare.specs.Claims.{Search, There, Nowhere, oneInstant, recordOfInstant, entryOfInstant}
 use Rattle.compare.proofs.Numbers.{equal-same, equal-is}
 use Rattle.compare.proofs.Walks.{walk-ind}

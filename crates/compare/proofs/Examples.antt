@@ -4,11 +4,10 @@ use Prim.Native.Nat.{ℕ}
 use mathlib.Core.Path.{_≡_, refl}
 use mathlib.Core.List.{List, [], _∷_, _++_}
 use lib.IntN.{pos, negsuc}
-use lib.ListN.{length}
 use Rattle.bigendian.specs.Numbers.{wordSum}
 use Rattle.instants.specs.Instants.{outside, dayIndex}
 use Rattle.record.specs.Records.{readOf}
-use Rattle.files.specs.Files.{answersIn, fileCases, IsFile, NoFile, fileOf}
+use Rattle.files.specs.Files.{answersIn, fileCases, fileOf}
 use Rattle.compare.specs.declared.CompareAnswer.the-variants.{Compared, NoComparison}
 use Rattle.compare.specs.Walk.{entry, walk}
 use Rattle.compare.specs.Compare.{entriesOf, compareOf}

@@ -4,18 +4,16 @@ use Prim.Native.Nat.{ℕ}
 use mathlib.Core.Path.{_≡_, refl, ap, ap₂, sym, _∙_}
 use mathlib.Core.Bool.{Bool, true, false, cond, _&&_}
 use mathlib.Core.List.{List, [], _∷_, _++_, map}
-use lib.IntN.{ℤ, pos, negsuc, negℤ, _-ℤ_}
-use lib.Dec.{eqb}
+use lib.IntN.{ℤ, negℤ, _-ℤ_}
 use Rattle.algebra.proofs.Ring.{end, _▸_, ring, quote}
 use Rattle.instants.proofs.Impossible.{impossible}
 use Rattle.record.specs.declared.Record.{Record}
 use Rattle.record.specs.Records.{recordWith}
-use Rattle.files.specs.Files.{when}
 use Rattle.files.specs.Claims.{Each, AcceptedRecord}
 use Rattle.files.proofs.Order.{moment-one}
 use Rattle.files.proofs.Records.{both}
 use Rattle.compare.specs.declared.Entry.{Entry}
-use Rattle.compare.specs.Walk.{entry, inBoth, alone, firstOnly, secondOnly, changed, equal, sameNumbers, differing, walk}
+use Rattle.compare.specs.Walk.{alone, firstOnly, secondOnly, changed, equal, sameNumbers, differing, walk}
 use Rattle.compare.specs.Claims.{exchanged}
 use Rattle.compare.proofs.Numbers.{equal-same, equal-is, equal-exchanged}
 use Rattle.compare.proofs.Walks.{walk-first, walk-second, walk-both, walk-none, walk-ind}

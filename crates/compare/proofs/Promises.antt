@@ -20,12 +20,11 @@ use Rattle.files.proofs.Refused.{unrefused, file-is}
 use Rattle.files.specs.Claims.{Each, AcceptedRecord}
 use Rattle.files.proofs.Records.{both, file-none, file-rises, file-recorded}
 use Rattle.compare.specs.declared.Entry.{Entry}
-use Rattle.compare.specs.declared.CompareAnswer.{CompareAnswer}
 use Rattle.compare.specs.declared.CompareAnswer.the-variants.{Compared, NoComparison}
 use Rattle.compare.specs.Walk.{entry, equal, sameNumbers, walk}
 use Rattle.compare.specs.Compare.{recordsOf, entriesOf, entryLength, listBytes, compareCases, compareOf, listAfter, entriesNumberOf, compareRefusalOf}
 use Rattle.compare.specs.Inner.{recordsFrom}
-use Rattle.compare.specs.Claims.{Search, There, Nowhere, oneInstant, recordOfInstant, entryOfInstant, exchanged, listed}
+use Rattle.compare.specs.Claims.{There, Nowhere, oneInstant, recordOfInstant, entryOfInstant, exchanged, listed}
 use Rattle.compare.proofs.Numbers.{equal-same, equal-is}
 use Rattle.compare.proofs.Entries.{list-length}
 use Rattle.compare.proofs.Answers.{compared-none, entries-few, long-enough}

@@ -1,22 +1,21 @@
 -- Entries read back from their bytes: each number fits its field, differences since they are of numbers of 32 bits. Assumes nothing.
-use Prim.Native.Nat.{ℕ, _/_, _^_, _<_}
-use mathlib.Core.Path.{_≡_, refl, ap, ap₂, sym, _∙_}
+use Prim.Native.Nat.{ℕ, _^_, _<_}
+use mathlib.Core.Path.{_≡_, refl, ap, ap₂, _∙_}
 use mathlib.Core.Bool.{Bool, true, false, cond}
 use mathlib.Core.List.{List, [], _∷_, _++_, append-assoc}
 use native.Mathlib.Omega.{arith}
-use lib.IntN.{ℤ, pos}
+use lib.IntN.{ℤ}
 use lib.ListN.{length, drop}
 use lib.Seq.{drop-at}
-use lib.Signed.{mag}
 use Rattle.bigendian.proofs.Fields.{number-back, signed-back}
 use Rattle.bigendian.proofs.Signs.{FitsBytes}
-use Rattle.instants.specs.Instants.{dayIndex, IsAccepted}
+use Rattle.instants.specs.Instants.{dayIndex}
 use Rattle.instants.proofs.Accepted.{accepted-at}
 use Rattle.record.specs.declared.Record.{Record}
 use Rattle.bigendian.specs.Fields.{fieldAt, signedAt}
 use Rattle.files.specs.Claims.{Each, AcceptedRecord, Fitting}
 use Rattle.compare.specs.declared.Entry.{Entry}
-use Rattle.compare.specs.Walk.{entry, alone, firstOnly, secondOnly, changed, sameNumbers, differing, walk}
+use Rattle.compare.specs.Walk.{entry, alone, firstOnly, secondOnly, changed, sameNumbers, walk}
 use Rattle.compare.specs.Compare.{entryLength, sideField, dayField, microsField, ut1Field, lodField, rateField, entryBytes, listBytes}
 use Rattle.compare.specs.Claims.{entryIn, listed}
 use Rattle.compare.proofs.Entries.{entry-length}

@@ -6,11 +6,11 @@ use mathlib.Core.Bool.{Bool, true, false, cond, _&&_, _||_}
 use mathlib.Core.List.{List, [], _∷_, _++_, map}
 use native.Mathlib.Omega.{arith}
 use lib.Dec.{ltb}
-use lib.IntN.{ℤ, pos}
+use lib.IntN.{pos}
 use lib.ListN.{drop}
 use lib.Seq.{drop-nil}
 use lib.Signed.{ltZ, leZ}
-use borrow.Author.Tests.{ltb-true, lt-ltb}
+use borrow.Author.Tests.{ltb-true}
 use Rattle.instants.specs.Moments.{momentOf}
 use Rattle.instants.proofs.Impossible.{impossible}
 use Rattle.record.specs.declared.Record.{Record}
@@ -18,8 +18,8 @@ use Rattle.record.specs.Records.{recordWith}
 use Rattle.files.specs.Files.{when, startsAfter, rises}
 use Rattle.files.proofs.Records.{both, in-order}
 use Rattle.compare.specs.declared.Entry.{Entry}
-use Rattle.compare.specs.Walk.{alone, firstOnly, secondOnly, changed, sameNumbers, differing, walk}
-use Rattle.compare.specs.Claims.{Search, There, Nowhere, oneInstant, entryOfInstant}
+use Rattle.compare.specs.Walk.{alone, firstOnly, secondOnly, changed, sameNumbers, walk}
+use Rattle.compare.specs.Claims.{There, oneInstant, entryOfInstant}
 use Rattle.compare.proofs.AtInstants.{Rising, rising-rest, rising-after, earlier-too, one-is, one-same}
 use Rattle.compare.proofs.Walks.{walk-ind}
 

@@ -1,5 +1,5 @@
 -- The list is written entry by entry: what is done, and what the walk still lists, are the whole list. Assumes nothing.
-use Prim.Native.Nat.{ℕ, _+_, _-_, _*_, _≤_, _<_}
+use Prim.Native.Nat.{ℕ, _+_, _-_, _≤_, _<_}
 use mathlib.Core.Path.{_≡_, refl, ap, ap₂, sym, _∙_}
 use mathlib.Core.Bool.{Bool, true, false, _||_}
 use mathlib.Core.List.{List, [], _∷_, _++_}
@@ -12,10 +12,9 @@ use Rattle.bigendian.proofs.Filling.{Filling, filling-none, filling-sum, fillin
 use Rattle.instants.proofs.Accepted.{both-false}
 use Rattle.record.specs.declared.Record.{Record}
 use Rattle.files.specs.Inner.{atEnd, Standing}
-use Rattle.compare.specs.declared.Entry.{Entry}
 use Rattle.compare.specs.declared.Place.{Place}
 use Rattle.compare.specs.Walk.{walk}
-use Rattle.compare.specs.Compare.{entryLength, listBytes}
+use Rattle.compare.specs.Compare.{listBytes}
 use Rattle.compare.specs.Inner.{recordsFrom, startOf, nextPlace, here, Going, Fits}
 use Rattle.compare.proofs.Entries.{list-length, list-append}
 use Rattle.compare.proofs.Walks.{walk-none}

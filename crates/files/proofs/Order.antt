@@ -1,6 +1,6 @@
 -- Moments are in the order of instants: of two accepted instants the moment of one is the lesser exactly when its day number is, or its microseconds are on
 -- the same day; and equal moments are of one instant. Assumes nothing.
-use Prim.Native.Nat.{ℕ, suc, _+_, _-_, _*_, _≤_, _<_}
+use Prim.Native.Nat.{ℕ, suc, _-_, _≤_, _<_}
 use mathlib.Core.Path.{_≡_, refl, ap, ap₂, sym, _∙_}
 use mathlib.Core.Bool.{Bool, true, false, cond, _&&_, _||_}
 use native.Mathlib.Omega.{arith}
@@ -9,7 +9,7 @@ use lib.Dec.{ltb, leb}
 use lib.IntN.{ℤ, pos, negsuc, _-ℤ_}
 use lib.Signed.{ltZ, leZ}
 use borrow.Author.Tests.{ltb-true, ltb-false, lt-ltb, le-ltb, le-leb, lt-leb}
-use Rattle.instants.specs.Limits.{indexOffset, dayMicros}
+use Rattle.instants.specs.Limits.{indexOffset}
 use Rattle.instants.specs.Instants.{dayIndex, IsAccepted}
 use Rattle.instants.specs.Moments.{momentOf}
 use Rattle.instants.proofs.Accepted.{AcceptedAt, accepted-at}

@@ -17,7 +17,7 @@ use Rattle.record.specs.declared.ReadAnswer.the-variants.{IsRecord, NoRecord}
 use Rattle.record.specs.Format.{recordLength}
 use Rattle.record.specs.Records.{readOf, isRecord}
 use Rattle.record.proofs.Unrefused.{read-accepted}
-use Rattle.files.specs.Files.{answersIn, when}
+use Rattle.files.specs.Files.{when}
 use Rattle.files.specs.Inner.{atEnd, unsound, momentIn, nextMoment, soundAfter, answersFrom, sound, Standing}
 use Rattle.files.proofs.Answers.{from-step, from-end}
 

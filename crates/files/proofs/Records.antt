@@ -1,6 +1,6 @@
 -- What the records of a file have: each is what the bytes at its place read as, its instant is accepted and after the one before. Assumes nothing.
-use Prim.Native.Nat.{ℕ, zero, suc, _+_, _*_, _/_, _%_, _≤_, _<_}
-use mathlib.Core.Path.{_≡_, refl, ap, ap₂, sym, _∙_}
+use Prim.Native.Nat.{ℕ, zero, suc, _+_, _*_, _/_, _%_}
+use mathlib.Core.Path.{_≡_, refl, ap, sym, _∙_}
 use mathlib.Core.Bool.{Bool, true, false, not, _&&_, _||_, true≢false}
 use mathlib.Core.List.{List, [], _∷_}
 use native.Mathlib.Omega.{arith}
@@ -18,7 +18,7 @@ use Rattle.record.specs.declared.ReadAnswer.the-variants.{IsRecord, NoRecord}
 use Rattle.record.specs.Format.{recordLength}
 use Rattle.record.specs.Records.{readOf}
 use Rattle.record.proofs.Unrefused.{read-accepted, read-day-fits, read-numbers-fit}
-use Rattle.files.specs.Files.{mostBytes, answers, answersIn, recordsAmong, when, startsAfter, rises, wrongLength, lengthCases, readingCases, orderCases, fileCases, IsFile, NoFile, fileOf}
+use Rattle.files.specs.Files.{mostBytes, answers, answersIn, recordsAmong, when, startsAfter, rises, wrongLength, readingCases, orderCases, fileCases, IsFile, NoFile, fileOf}
 use Rattle.files.specs.Claims.{Each, AcceptedRecord, Fitting}
 use Rattle.files.proofs.Order.{moment-order}
 

@@ -1,14 +1,14 @@
 -- Which refusal a file has: none exactly when its length is right and it is sound. Where a file is not sound and each record reads, the instants do not
 -- rise. Assumes nothing.
 use Prim.Native.Nat.{ℕ, zero, suc, _+_, _*_, _/_, _%_, _≤_, _<_}
-use mathlib.Core.Path.{_≡_, refl, ap, ap₂, sym, _∙_}
-use mathlib.Core.Bool.{Bool, true, false, cond, not, _&&_, true≢false}
-use mathlib.Core.List.{List, [], _∷_, _++_}
+use mathlib.Core.Path.{_≡_, refl, ap, sym, _∙_}
+use mathlib.Core.Bool.{Bool, true, false, not, _&&_, true≢false}
+use mathlib.Core.List.{List, [], _∷_}
 use native.Mathlib.Omega.{arith}
 use native.Mathlib.Decide.{ℕ-discrete}
 use lib.Dec.{eqb, ltb}
 use lib.ListN.{length, drop}
-use Rattle.instants.specs.Refusals.{Case, refusedOr, firstRefusal}
+use Rattle.instants.specs.Refusals.{refusedOr, firstRefusal}
 use borrow.Author.Tests.{ltb-false}
 use Rattle.instants.proofs.Accepted.{both-false}
 use Rattle.instants.proofs.FirstRefusal.{NoneApplies, none-both, none-append, refused-append, none-answered, refused-first}
@@ -18,7 +18,7 @@ use Rattle.record.specs.declared.ReadAnswer.the-variants.{IsRecord, NoRecord}
 use Rattle.record.specs.Format.{recordLength}
 use Rattle.record.specs.Records.{readOf}
 use Rattle.record.proofs.Unrefused.{refusal-numbered}
-use Rattle.files.specs.Files.{mostBytes, answers, answersIn, recordsAmong, when, startsAfter, rises, wrongLength, readingCases, orderCases, fileCases, FileAnswer, IsFile, NoFile, fileOf}
+use Rattle.files.specs.Files.{mostBytes, answers, answersIn, recordsAmong, when, startsAfter, rises, wrongLength, readingCases, orderCases, fileCases, IsFile, NoFile, fileOf}
 use Rattle.files.specs.Inner.{soundAfter, answersFrom, sound, readingRefusal, fileRefusal}
 use Rattle.files.proofs.Answers.{from-step, from-end}
 use Rattle.files.proofs.Places.{after-zero}

@@ -11,13 +11,12 @@ use lib.Seq.{drop-drop}
 use borrow.Author.Tests.{ne-eqb}
 use Rattle.instants.specs.Refusals.{Case, case, firstRefusal}
 use Rattle.instants.proofs.FirstRefusal.{NoneApplies, first-behind}
-use Rattle.record.specs.declared.Record.{Record}
 use Rattle.record.specs.declared.ReadAnswer.{ReadAnswer}
 use Rattle.record.specs.declared.ReadAnswer.the-variants.{IsRecord, NoRecord}
 use Rattle.record.specs.Format.{recordLength}
 use Rattle.record.specs.Records.{readOf, isRecord, readRefusalOf}
 use Rattle.record.proofs.Unrefused.{refusal-numbered, read-accepted}
-use Rattle.files.specs.Files.{answers, answersIn, recordsAmong, when, startsAfter, rises, lengthCases, readingCases, orderCases, fileCases}
+use Rattle.files.specs.Files.{answers, answersIn, recordsAmong, when, rises, lengthCases, readingCases, orderCases, fileCases}
 use Rattle.files.specs.Claims.{holdsBelow, casesBelow}
 use Rattle.files.proofs.Order.{moment-order}
 use Rattle.compare.specs.Compare.{entriesOf, compareOf, compareRefusalOf}

@@ -16,7 +16,7 @@ use Rattle.instants.specs.Instants.{instant, IsAccepted}
 use Rattle.instants.proofs.Impossible.{impossible}
 use Rattle.instants.proofs.FirstRefusal.{handed-on, none-answered, first-none}
 use Rattle.instants.proofs.Accepted.{accepted}
-use Rattle.clock.specs.Words.{markUnit, joinCases}
+use Rattle.clock.specs.Words.{markUnit}
 use Rattle.clock.proofs.Words.{was-split, split-accepted, join-then-split}
 use Rattle.bigendian.specs.Numbers.{signedOf}
 use Rattle.bigendian.specs.Fields.{fieldAt}

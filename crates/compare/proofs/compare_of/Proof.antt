@@ -1,7 +1,7 @@
 -- `compare::compare_of` meets its contract: each return has the tests that led there. Assumes nothing.
-use Prim.Native.Nat.{ℕ, _*_, _≤_}
+use Prim.Native.Nat.{ℕ, _≤_}
 use mathlib.Core.Path.{_≡_, ap, ap₂, sym, _∙_}
-use mathlib.Core.Bool.{Bool, false, _||_}
+use mathlib.Core.Bool.{false, _||_}
 use mathlib.Core.List.{List}
 use native.Mathlib.Omega.{arith}
 use denote.Ref.{now}
@@ -9,7 +9,6 @@ use lib.ListN.{length}
 use Rattle.files.specs.Files.{wrongLength}
 use Rattle.compare.specs.declared.Count.the-variants.{Entries}
 use Rattle.compare.specs.declared.CompareAnswer.the-variants.{Compared, NoComparison}
-use Rattle.compare.specs.Compare.{entryLength}
 use Rattle.compare.specs.Inner.{countOf}
 use Rattle.compare.proofs.Answers.{refused-files, length-refused, count-refused, entries-few, too-short, long-enough, counted-first, counted-second, counted-is}
 use borrow.Author.Needs.{needs}

@@ -1,7 +1,7 @@
 -- `compare::count_entries` meets its contract. The invariant: the entries that are counted, and those that the walk still lists, are all. Assumes nothing.
-use Prim.Native.Nat.{ℕ, _+_, _-_, _*_, _≤_}
-use mathlib.Core.Path.{_≡_, refl, sym, ap}
-use mathlib.Core.Bool.{true, false, _||_, true≢false}
+use Prim.Native.Nat.{ℕ, _+_, _-_, _≤_}
+use mathlib.Core.Path.{_≡_, refl, sym}
+use mathlib.Core.Bool.{true≢false}
 use mathlib.Core.List.{List}
 use native.Mathlib.Omega.{arith}
 use denote.Ref.{now}
@@ -9,7 +9,6 @@ use lib.Dec.{ltb}
 use lib.ListN.{length}
 use borrow.Author.Tests.{ltb-false}
 use Rattle.instants.proofs.Accepted.{both-false}
-use Rattle.record.specs.Format.{recordLength}
 use Rattle.files.specs.Inner.{atEnd}
 use Rattle.compare.specs.Inner.{nextPlace, here}
 use Rattle.compare.proofs.Steps.{Counting, step-less, counting-none, counting-going, counting-more, counting-first, counting-second, counting-done}

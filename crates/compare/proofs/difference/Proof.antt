@@ -1,6 +1,6 @@
 -- `compare::difference` meets its contract: 64 bits hold both numbers and their difference. Assumes nothing.
-use mathlib.Core.Path.{_≡_, _∙_}
-use lib.IntN.{ℤ, _-ℤ_}
+use mathlib.Core.Path.{_≡_}
+use lib.IntN.{ℤ}
 use mir.Syntax.{w32, w64}
 use mir.Val.{SFits, toZ, ofZ}
 use mir.Facts.{toZ-ofZ, sfits-widen}

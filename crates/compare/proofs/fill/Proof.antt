@@ -1,6 +1,5 @@
 -- `compare::fill` meets its contract. The invariant: what is written, and what the walk still lists, are the whole list. Assumes nothing.
-use Prim.Native.Nat.{ℕ, _+_, _-_, _≤_}
-use mathlib.Core.List.{List}
+use Prim.Native.Nat.{_+_, _-_}
 use native.Mathlib.Omega.{arith}
 use denote.Ref.{now}
 use lib.ListN.{length}

@@ -1,7 +1,5 @@
 -- `compare::listed` meets its contract: each return has the tests that led there. Assumes nothing.
-use Prim.Native.Nat.{_≤_}
 use mathlib.Core.Path.{_≡_, refl, ap₂, sym, _∙_}
-use mathlib.Core.Bool.{Bool}
 use borrow.Author.Tests.{lt-ltb, le-ltb}
 use denote.Ref.{now}
 use Rattle.compare.specs.Walk.{sameNumbers}

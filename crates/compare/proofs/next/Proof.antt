@@ -1,6 +1,5 @@
 -- `compare::next` meets its contract: behind the first file's record, behind the second's, or behind both. Assumes nothing.
 use Prim.Native.Nat.{_≤_}
-use mathlib.Core.Path.{refl}
 use native.Mathlib.Omega.{arith}
 use borrow.Author.Tests.{lt-ltb, le-ltb}
 use Rattle.compare.proofs.Steps.{first-room, first-known, second-room, second-known}

@@ -1,13 +1,10 @@
 -- `compare::put_here` meets its contract: one entry is put, or none. Assumes nothing.
-use Prim.Native.Nat.{ℕ, _≤_}
+use Prim.Native.Nat.{_≤_}
 use mathlib.Core.Path.{_≡_, ap, ap₂, sym, _∙_}
 use mathlib.Core.List.{[], _∷_}
 use native.Mathlib.Omega.{arith}
 use denote.Ref.{now}
-use mir.Syntax.{w32}
-use mir.Val.{SFits}
 use Rattle.compare.specs.declared.Entry.{Entry}
-use Rattle.compare.specs.declared.Place.{Place}
 use Rattle.compare.specs.Walk.{firstOnly, secondOnly, alone, changed, sameNumbers}
 use Rattle.compare.specs.Inner.{recordAt, here}
 use Rattle.compare.proofs.Entries.{one-room, one-put, none-put}

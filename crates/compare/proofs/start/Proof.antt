@@ -1,5 +1,4 @@
 -- `compare::start` meets its contract. Assumes nothing.
-use mathlib.Core.Path.{refl}
 use native.Mathlib.Omega.{arith}
 use Rattle.files.specs.Inner.{sound}
 use Rattle.compare.proofs.start.Statement.{statement}

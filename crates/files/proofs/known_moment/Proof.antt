@@ -1,12 +1,11 @@
 -- `files::known_moment` meets its contract: the instant of a record that reads is accepted, and its moment is above 0. Assumes nothing.
-use mathlib.Core.Path.{_≡_, refl, ap, sym, _∙_}
+use mathlib.Core.Path.{refl, ap, sym, _∙_}
 use lib.IntN.{ℤ}
 use mir.Syntax.{w64}
 use mir.Val.{SFits}
 use mir.Facts.{toZ-ofZ}
 use Rattle.instants.specs.Moments.{momentOf}
 use Rattle.record.proofs.Unrefused.{read-accepted}
-use Rattle.files.specs.Files.{when}
 use Rattle.files.specs.Inner.{momentIn}
 use Rattle.files.proofs.Places.{after-zero}
 use borrow.Author.Needs.{needs}

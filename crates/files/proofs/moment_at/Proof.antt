@@ -1,13 +1,13 @@
 -- `files::moment_at` meets its contract: the file ends, or the record at the place is known or tested. Assumes nothing.
 use Prim.Native.Nat.{ℕ, _+_, _≤_}
-use mathlib.Core.Path.{_≡_, ap, sym, _∙_}
+use mathlib.Core.Path.{_≡_, ap, _∙_}
 use mathlib.Core.Bool.{true}
 use mathlib.Core.List.{List}
 use native.Mathlib.Omega.{arith}
 use denote.Ref.{now}
 use lib.ListN.{length}
 use Rattle.record.specs.Format.{recordLength}
-use Rattle.record.specs.Records.{readOf, isRecord}
+use Rattle.record.specs.Records.{readOf}
 use Rattle.files.specs.Inner.{momentIn, soundAfter, answersFrom}
 use Rattle.files.proofs.Answers.{lent}
 use Rattle.files.proofs.Places.{moment-none, moment-there, known-reads, known-there}

@@ -1,6 +1,7 @@
 -- `files::moment_in` meets its contract: no record, one that is not after `last`, or one that is. Assumes nothing.
 use mathlib.Core.Path.{_≡_, sym, _∙_}
 use mathlib.Core.Bool.{true}
+use native.Mathlib.Omega.{arith}
 use denote.Ref.{now}
 use borrow.Author.Tests.{not-true, not-false}
 use Rattle.record.specs.Records.{readOf, isRecord}
@@ -23,10 +24,10 @@ known-moment-requires : tie.Need-known-moment-requires
 known-moment-requires c κs = reads c
 
 returns-2 : tie.Need-returns-2
-returns-2 c = let k = c .before in let a = k .before .before .before .before .args in moment-early (a .last) _ (readOf (now (a .s))) (reads (k .before)) (k .known-moment .ensures) (c .if2 .taken)
+returns-2 c = let k = c .before in let a = k .before .before .before .before .args in moment-early (a .last) (k .known-moment .result) (readOf (now (a .s))) (reads (k .before)) (k .known-moment .ensures) (omega (arith, c .if2 .taken))
 
 returns-3 : tie.Need-returns-3
-returns-3 c = let k = c .before in let a = k .before .before .before .before .args in moment-later (a .last) _ (readOf (now (a .s))) (reads (k .before)) (k .known-moment .ensures) (c .if2 .left)
+returns-3 c = let k = c .before in let a = k .before .before .before .before .args in moment-later (a .last) (k .known-moment .result) (readOf (now (a .s))) (reads (k .before)) (k .known-moment .ensures) (omega (arith, c .if2 .left))
 
 pub moment-in-spec : {M : Type 1} → statement M
 moment-in-spec =
