@@ -33,6 +33,7 @@ recordsFrom s i = recordsAmong (answersFrom s i)
 
 -- ---- where a walk stands
 
+-- the places i and j in two files, and the moments m and n of the records there
 abbrev pub place : (i j m n : ℕ) → Place
 place i j m n = record { first = i; second = j; m = m; n = n }
 

@@ -53,30 +53,31 @@ rises (r ∷ rs) = startsAfter (when r) rs && rises rs
 abbrev pub wrongLength : ℕ → Bool
 wrongLength n = not (eqb (n % recordLength) 0) || ltb mostBytes n
 
--- of the length
+-- the refusal of a length
 abbrev pub lengthCases : ℕ → List Case
 lengthCases n = case 27 (wrongLength n) ∷ []
 
--- of answers: that of reading, of the earliest that is no record
+-- those of answers: each that is no record has its own, so that the earliest decides
 abbrev pub readingCases : List ReadAnswer → List Case
 readingCases [] = []
 readingCases (x ∷ xs) = case (readRefusalOf x) (not (isRecord x)) ∷ readingCases xs
 
--- of the order of the instants
+-- that of the order of the instants
 abbrev pub orderCases : List Record → List Case
 orderCases rs = case 28 (not (rises rs)) ∷ []
 
--- of a file
+-- those of a file: of its length, of reading, and of the order
 unfoldable pub fileCases : List ℕ → List Case
 fileCases s = lengthCases (length s) ++ (readingCases (answersIn s) ++ orderCases (recordsAmong (answersIn s)))
 
 -- ---- the file
 
--- its records in their order, or its refusal
+-- records in their order, or a refusal
 pub data FileAnswer : Type 0 where
   IsFile : List Record → FileAnswer
   NoFile : ℕ → FileAnswer
 
+-- the file that s is: its records, or its refusal
 unfoldable pub fileOf : List ℕ → FileAnswer
 fileOf s = refusedOr NoFile (fileCases s) (IsFile (recordsAmong (answersIn s)))
 

@@ -10,10 +10,11 @@ use Rattle.record.specs.declared.ReadAnswer.{ReadAnswer}
 use Rattle.record.specs.declared.ReadAnswer.the-variants.{IsRecord, NoRecord}
 use Rattle.files.specs.Files.{answersIn, when, readingCases, fileCases}
 
--- past every moment: where a file ends, and what its next record is if it does not read or is not after the one before
+-- past every moment: where a file ends
 abbrev pub atEnd : ℕ
 atEnd = 0x4000_0000_0000_0000
 
+-- and past that: where the next record does not read or is not after the one before
 abbrev pub unsound : ℕ
 unsound = 0x8000_0000_0000_0000
 
@@ -37,7 +38,7 @@ soundAfter t (IsRecord r ∷ xs) = ltb t (when r) && soundAfter (when r) xs
 abbrev pub answersFrom : List ℕ → ℕ → List ReadAnswer
 answersFrom s i = answersIn (drop i s)
 
--- a whole file is sound
+-- every record of s reads, and the instants rise
 unfoldable pub sound : List ℕ → Bool
 sound s = soundAfter 0 (answersIn s)
 
