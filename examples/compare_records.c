@@ -6,7 +6,7 @@
  *     ./compare_records FILE FILE
  *
  * One of the files may be `-`, standard input. A file that the library refuses is named on standard error, with the
- * refusal and the record that is to blame.
+ * refusal and, but for 27, the record that is to blame.
  *
  * Status 0: no difference; 1: there are differences; 2: wrong usage, a file that could not be read or is refused, or
  * output that could not be written.

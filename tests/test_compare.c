@@ -300,7 +300,7 @@ static void far_above(void)
     munmap(many, FAR + 2 * FILE_MOST);
 }
 
-/* Four records in two files, with every byte of the list written out here. */
+/* Four instants in two files, with every byte of the list written out here. */
 static void by_hand(void)
 {
     static const uint8_t want[3 * ENTRY_BYTES] = {

@@ -14,7 +14,7 @@ use Rattle.instants.proofs.Accepted.{both-false}
 use Rattle.instants.proofs.Impossible.{impossible}
 use Rattle.instants.proofs.FirstRefusal.{NoneApplies, none-both, none-append, refused-append, refused-first, refused-alike, none-answered, answered-none}
 use Rattle.files.specs.Files.{FileAnswer, fileCases, wrongLength}
-use Rattle.files.specs.Inner.{sound, fileRefusal}
+use Rattle.files.specs.Inner.{sound}
 use Rattle.files.proofs.Refused.{none-applies, applies-none, unrefused, file-is, file-short, records-few}
 use Rattle.compare.specs.declared.Entry.{Entry}
 use Rattle.compare.specs.declared.Count.the-variants.{Entries, NoCount}
@@ -33,7 +33,7 @@ module _ (s t : List ℕ) where
 
   -- without a refusal of either none applies
   pub files-unrefused : filesRefusal s t ≡ 0 → NoneApplies (fileCases s) × NoneApplies (fileCases t)
-  unfolding filesRefusal fileRefusal
+  unfolding filesRefusal
   files-unrefused z = by (ℕ-discrete (firstRefusal (fileCases s)) 0)
     where
       split : firstRefusal (fileCases s ++ fileCases t) ≡ refusedOr (λ n. n) (fileCases s) (firstRefusal (fileCases t))

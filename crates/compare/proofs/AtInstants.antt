@@ -12,7 +12,7 @@ use Rattle.instants.specs.Moments.{momentOf}
 use Rattle.record.specs.declared.Record.{Record}
 use Rattle.files.specs.Files.{when, startsAfter, rises}
 use Rattle.files.specs.Claims.{Each, AcceptedRecord}
-use Rattle.files.proofs.Order.{moment-one}
+use Rattle.instants.proofs.Order.{moment-one}
 use Rattle.files.proofs.Records.{both}
 use Rattle.compare.specs.declared.Entry.{Entry}
 use Rattle.compare.specs.Walk.{firstOnly, secondOnly, alone, changed, equal, sameNumbers, differing, walk}

@@ -10,7 +10,7 @@ use Rattle.instants.proofs.Impossible.{impossible}
 use Rattle.record.specs.declared.Record.{Record}
 use Rattle.record.specs.Records.{recordWith}
 use Rattle.files.specs.Claims.{Each, AcceptedRecord}
-use Rattle.files.proofs.Order.{moment-one}
+use Rattle.instants.proofs.Order.{moment-one}
 use Rattle.files.proofs.Records.{both}
 use Rattle.compare.specs.declared.Entry.{Entry}
 use Rattle.compare.specs.Walk.{alone, firstOnly, secondOnly, changed, equal, sameNumbers, differing, walk}

@@ -15,8 +15,7 @@ use Rattle.instants.proofs.Impossible.{impossible}
 use Rattle.instants.proofs.FirstRefusal.{none-both, handed-on, none-answered, refused-first}
 use Rattle.record.specs.declared.Record.{Record}
 use Rattle.files.specs.Files.{answersIn, recordsAmong, FileAnswer, IsFile, NoFile, fileOf, fileCases, fileRefusalOf}
-use Rattle.files.specs.Inner.{fileRefusal}
-use Rattle.files.proofs.Refused.{unrefused, file-is}
+use Rattle.files.proofs.Refused.{file-refusal, unrefused, file-is}
 use Rattle.files.specs.Claims.{Each, AcceptedRecord}
 use Rattle.files.proofs.Records.{both, file-none, file-rises, file-recorded}
 use Rattle.compare.specs.declared.Entry.{Entry}
@@ -120,9 +119,8 @@ entries-same s = walk-same (recordsOf (fileOf s))
 
 -- PROMISE. A file and itself are answered with no entry, whatever the list's room.
 pub same-compared : (s : List ℕ) (n : ℕ) → fileRefusalOf (fileOf s) ≡ 0 → compareOf s s n ≡ Compared 0
-unfolding fileOf fileRefusal
 same-compared s n z =
-    let a = unrefused s (sym (handed-on NoFile fileRefusalOf (λ k. refl) (fileCases s) _) ∙ z) in
+    let a = unrefused s (sym (file-refusal s) ∙ z) in
     let e : length (walk (recordsFrom s 0) (recordsFrom s 0)) ≡ 0 = ap length (walk-same (recordsFrom s 0)) in
     sym (long-enough s s a a n (omega (arith, e))) ∙ ap Compared e
 

@@ -19,7 +19,7 @@ ghost use Rattle.compare.specs.Compare.{entryLength, entryBytes, listByt
 ghost use Rattle.compare.specs.Inner.{recordAt, recordsFrom, startOf, nextPlace, here, Going, countOf, filesRefusal, Fits};
 
 // The bytes of an entry.
-pub const ENTRY: usize = 37;
+const ENTRY: usize = 37;
 
 // Its six fields, in order.
 const SIDE_FIELD: Field = Field { at: 0, size: 1 };
@@ -168,7 +168,7 @@ fn record_at(s: &[u8], i: usize) -> Record
 }
 
 // How many entries are listed at a place of a walk: one or none.
-fn listed(s: &[u8], t: &[u8], p: Place) -> u64
+fn count_here(s: &[u8], t: &[u8], p: Place) -> u64
     requires { ⌜ Going (now s) (now t) p false ⌝ }
     ensures { λ r. ⌜ r ≡ length (here (now (s .entry)) (now (t .entry)) p) ⌝ }
 {
@@ -191,7 +191,7 @@ fn count_entries(s: &[u8], t: &[u8]) -> Count
     let mut p = start(s, t, false);
     let mut entries: u64 = 0;
     while (p.m < END) | (p.n < END) {
-        entries += listed(s, t, p);
+        entries += count_here(s, t, p);
         p = next(s, t, p, false);
     }
     if p.m != END {
@@ -247,7 +247,7 @@ fn entry_bytes(e: Entry) -> [u8; ENTRY]
     b
 }
 
-// Puts an entry at the front of the list, and returns its bytes.
+// Puts an entry at the front of the list, and returns how many bytes it has.
 fn put_entry(e: Entry, list: &mut [u8]) -> usize
     requires day { ⌜ SFits w32 (e .day) ⌝ }
     requires room { ⌜ entryLength ≤ length (now list) ⌝ }
@@ -259,7 +259,7 @@ fn put_entry(e: Entry, list: &mut [u8]) -> usize
     bytes::copy(&b[..n], list)
 }
 
-// Puts what is listed at a place of a walk at the front of the list, and returns its bytes.
+// Puts what is listed at a place of a walk at the front of the list, and returns how many bytes it has.
 fn put_here(s: &[u8], t: &[u8], p: Place, list: &mut [u8]) -> usize
     requires going { ⌜ Going (now s) (now t) p true ⌝ }
     requires room { ⌜ length (listBytes (here (now s) (now t) p)) ≤ length (now list) ⌝ }

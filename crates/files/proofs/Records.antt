@@ -20,7 +20,7 @@ use Rattle.record.specs.Records.{readOf}
 use Rattle.record.proofs.Unrefused.{read-accepted, read-day-fits, read-numbers-fit}
 use Rattle.files.specs.Files.{mostBytes, answers, answersIn, recordsAmong, when, startsAfter, rises, wrongLength, readingCases, orderCases, fileCases, IsFile, NoFile, fileOf}
 use Rattle.files.specs.Claims.{Each, AcceptedRecord, Fitting}
-use Rattle.files.proofs.Order.{moment-order}
+use Rattle.instants.proofs.Order.{moment-order}
 
 -- both hold where their conjunction does
 pub both : (a b : Bool) → (a && b) ≡ true → (a ≡ true) × (b ≡ true)

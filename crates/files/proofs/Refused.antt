@@ -11,15 +11,15 @@ use lib.ListN.{length, drop}
 use Rattle.instants.specs.Refusals.{refusedOr, firstRefusal}
 use borrow.Author.Tests.{ltb-false}
 use Rattle.instants.proofs.Accepted.{both-false}
-use Rattle.instants.proofs.FirstRefusal.{NoneApplies, none-both, none-append, refused-append, none-answered, refused-first}
+use Rattle.instants.proofs.FirstRefusal.{NoneApplies, none-both, none-append, handed-on, refused-append, none-answered, refused-first}
 use Rattle.record.specs.declared.Record.{Record}
 use Rattle.record.specs.declared.ReadAnswer.{ReadAnswer}
 use Rattle.record.specs.declared.ReadAnswer.the-variants.{IsRecord, NoRecord}
 use Rattle.record.specs.Format.{recordLength}
 use Rattle.record.specs.Records.{readOf}
 use Rattle.record.proofs.Unrefused.{refusal-numbered}
-use Rattle.files.specs.Files.{mostBytes, answers, answersIn, recordsAmong, when, startsAfter, rises, wrongLength, readingCases, orderCases, fileCases, IsFile, NoFile, fileOf}
-use Rattle.files.specs.Inner.{soundAfter, answersFrom, sound, readingRefusal, fileRefusal}
+use Rattle.files.specs.Files.{mostBytes, answers, answersIn, recordsAmong, when, startsAfter, rises, wrongLength, readingCases, orderCases, fileCases, IsFile, NoFile, fileOf, fileRefusalOf}
+use Rattle.files.specs.Inner.{soundAfter, answersFrom, sound, readingRefusal}
 use Rattle.files.proofs.Answers.{from-step, from-end}
 use Rattle.files.proofs.Places.{after-zero}
 
@@ -78,9 +78,14 @@ all-read (suc n) s e = by (readOf s) refl e (all-read n (drop recordLength s))
 
 -- ---- the file
 
+-- its refusal is that of the first case that applies
+pub file-refusal : (s : List ℕ) → fileRefusalOf (fileOf s) ≡ firstRefusal (fileCases s)
+unfolding fileOf
+file-refusal s = handed-on NoFile fileRefusalOf (λ n. refl) (fileCases s) _
+
 module _ (s : List ℕ) where
-  pub refused-length : wrongLength (length s) ≡ true → 27 ≡ fileRefusal s
-  unfolding fileRefusal fileCases
+  pub refused-length : wrongLength (length s) ≡ true → 27 ≡ firstRefusal (fileCases s)
+  unfolding fileCases
   refused-length e = rw e refl
 
   module _ (h : wrongLength (length s) ≡ false) where
@@ -91,19 +96,18 @@ module _ (s : List ℕ) where
         let n = sound-none 0 (answersIn s) e in
         (h, none-append (readingCases (answersIn s)) (orderCases (recordsAmong (answersIn s))) n (ap not (sym (risen (answersIn s) n) ∙ e), tt))
 
-    pub refused-none : sound s ≡ true → 0 ≡ fileRefusal s
-    unfolding fileRefusal
+    pub refused-none : sound s ≡ true → 0 ≡ firstRefusal (fileCases s)
     refused-none e = sym (none-answered (λ n. n) (fileCases s) 0 (none-applies e))
 
-    behind : fileRefusal s ≡ refusedOr (λ n. n) (readingCases (answersIn s)) (firstRefusal (orderCases (recordsAmong (answersIn s))))
-    unfolding fileRefusal fileCases
+    behind : firstRefusal (fileCases s) ≡ refusedOr (λ n. n) (readingCases (answersIn s)) (firstRefusal (orderCases (recordsAmong (answersIn s))))
+    unfolding fileCases
     behind = rw h (refused-append (λ n. n) (readingCases (answersIn s)) (orderCases (recordsAmong (answersIn s))) 0)
 
-    pub refused-reading : (readingRefusal s ≡ 0 → ⊥) → readingRefusal s ≡ fileRefusal s
+    pub refused-reading : (readingRefusal s ≡ 0 → ⊥) → readingRefusal s ≡ firstRefusal (fileCases s)
     unfolding readingRefusal
     refused-reading n = sym (behind ∙ refused-first (λ n. n) (readingCases (answersIn s)) _ n)
 
-    pub refused-order : sound s ≡ false → readingRefusal s ≡ 0 → 28 ≡ fileRefusal s
+    pub refused-order : sound s ≡ false → readingRefusal s ≡ 0 → 28 ≡ firstRefusal (fileCases s)
     unfolding readingRefusal sound answersIn
     refused-order e z =
         let n = all-read (length s / recordLength) s z in
@@ -121,7 +125,7 @@ module _ (s : List ℕ) where
       right false e = absurd (true≢false e)
 
 -- a refusal of 0 says that none applies
-pub unrefused : (s : List ℕ) → fileRefusal s ≡ 0 → NoneApplies (fileCases s)
+pub unrefused : (s : List ℕ) → firstRefusal (fileCases s) ≡ 0 → NoneApplies (fileCases s)
 unrefused s z = by (wrongLength (length s)) refl (sound s) refl
   where
     none : wrongLength (length s) ≡ false → sound s ≡ false → Dec (readingRefusal s ≡ 0) → ⊥

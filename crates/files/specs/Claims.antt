@@ -1,10 +1,7 @@
--- The words of what is proved of files, here and in promises.
-use Prim.Native.Nat.{ℕ, zero, suc}
-use mathlib.Core.Bool.{Bool, false, _||_}
+-- The words of what is proved of files, here and in compare.
 use mathlib.Core.List.{List, [], _∷_}
 use mir.Syntax.{w32}
 use mir.Val.{SFits}
-use Rattle.instants.specs.Refusals.{Case}
 use Rattle.instants.specs.Instants.{IsAccepted}
 use Rattle.record.specs.declared.Record.{Record}
 
@@ -23,13 +20,3 @@ pub record Fitting (r : Record) : Type 0 where
   pub ut1 : SFits w32 (r .ut1)
   pub lod : SFits w32 (r .lod)
   pub rate : SFits w32 (r .rate)
-
--- f holds at 0, at 1, .. or at n - 1
-abbrev pub holdsBelow : ℕ → (ℕ → Bool) → Bool
-holdsBelow zero f = false
-holdsBelow (suc n) f = f 0 || holdsBelow n (λ k. f (suc k))
-
--- the cases f 0, f 1, .. f (n - 1)
-abbrev pub casesBelow : ℕ → (ℕ → Case) → List Case
-casesBelow zero f = []
-casesBelow (suc n) f = f 0 ∷ casesBelow n (λ k. f (suc k))

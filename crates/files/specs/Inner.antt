@@ -8,7 +8,7 @@ use lib.ListN.{length, drop}
 use Rattle.instants.specs.Refusals.{firstRefusal}
 use Rattle.record.specs.declared.ReadAnswer.{ReadAnswer}
 use Rattle.record.specs.declared.ReadAnswer.the-variants.{IsRecord, NoRecord}
-use Rattle.files.specs.Files.{answersIn, when, readingCases, fileCases}
+use Rattle.files.specs.Files.{answersIn, when, readingCases}
 
 -- past every moment: where a file ends
 abbrev pub atEnd : ℕ
@@ -52,7 +52,3 @@ pub record Standing (s : List ℕ) (i m : ℕ) : Type 0 where
 -- the first refusal of reading, or 0
 unfoldable pub readingRefusal : List ℕ → ℕ
 readingRefusal s = firstRefusal (readingCases (answersIn s))
-
--- the first refusal of a file, or 0
-unfoldable pub fileRefusal : List ℕ → ℕ
-fileRefusal s = firstRefusal (fileCases s)

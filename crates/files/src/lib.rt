@@ -6,15 +6,16 @@ ghost use mathlib.Core.Bool.{true};
 ghost use Prim.Native.Nat.{_≤_};
 ghost use lib.ListN.{length};
 ghost use Rattle.record.specs.Records.{readOf, isRecord};
-ghost use Rattle.files.specs.Files.{wrongLength};
-ghost use Rattle.files.specs.Inner.{momentIn, nextMoment, soundAfter, answersFrom, sound as soundFile, readingRefusal, fileRefusal};
+ghost use Rattle.files.specs.Files.{wrongLength, fileOf, fileRefusalOf};
+ghost use Rattle.files.specs.Inner.{momentIn, nextMoment, soundAfter, answersFrom, sound as soundFile, readingRefusal};
 
 // The most bytes of a file.
-pub const MOST_BYTES: usize = 65_520;
+const MOST_BYTES: usize = 65_520;
 
-// Past every moment: where a file ends, and what its next record is if it does not read or is not after the one before.
+// Past every moment: where a file ends.
 pub const END: u64 = 0x4000_0000_0000_0000;
 
+// And past that: where the next record does not read or is not after the one before.
 const UNSOUND: u64 = 0x8000_0000_0000_0000;
 
 // A length that no file has.
@@ -33,7 +34,7 @@ fn known_moment(s: &[u8]) -> u64
     instants::moment_of(r.day, r.micros)
 }
 
-// The same of a record that is to read, and to be after `last`.
+// The same of any bytes: `UNSOUND` where they do not read as a record, or its moment is not after `last`.
 fn moment_in(s: &[u8], last: u64) -> u64
     ensures { λ r. ⌜ r ≡ momentIn last (readOf (now (s .entry))) ⌝ }
 {
@@ -47,7 +48,8 @@ fn moment_in(s: &[u8], last: u64) -> u64
     t
 }
 
-// The moment of the record at a place of s, which is to be after `last`, or `END`. Where the records from there on are known to be sound, none is tested.
+// The moment of the record at a place of s: `UNSOUND` if it does not read or is not after `last`, `END` where none is left. Where the records from there on
+// are known to be sound, none is tested.
 pub fn moment_at(s: &[u8], at: usize, last: u64, known: bool) -> u64
     requires place { ⌜ at ≤ length (now s) ⌝ }
     requires known { ⌜ (known ≡ true → soundAfter last (answersFrom (now s) at) ≡ true) ⌝ }
@@ -95,7 +97,7 @@ fn reading_refusal(s: &[u8]) -> u32
 
 // The refusal of a file, or 0.
 pub fn refusal(s: &[u8]) -> u32
-    ensures { λ r. ⌜ r ≡ fileRefusal (now (s .entry)) ⌝ }
+    ensures { λ r. ⌜ r ≡ fileRefusalOf (fileOf (now (s .entry))) ⌝ }
 {
     if wrong_length(s.len()) {
         return 27;

@@ -3,7 +3,7 @@ use mathlib.Core.Path.{refl}
 use Rattle.files.specs.Files.{answersIn, fileCases, fileOf}
 use Rattle.files.proofs.Records.{file-recorded, file-length, file-in-order}
 use Rattle.compare.proofs.Promises.{compare-number, compare-list, same-compared, compared-files, entries-exchanged, entries-empty, entries-in-order, entries-found, entries-read-back, entries-room, listed-neither, listed-first, listed-second, listed-equal, listed-changed}
-use Rattle.compare.proofs.Examples.{before, after, twice, one-byte, three-entries, three-fit, refused-in-order}
+use Rattle.compare.proofs.Examples.{before, after, twice, oneByte, fallingUnread, three-entries, three-fit, refused-in-order, refused-unread, falling, twice-same}
 use Rattle.promises.specs.Compared.{ComparedExactly}
 
 -- PROMISE. Demand 2: record files are compared exactly.
@@ -29,6 +29,7 @@ compared-exactly = record {
   list-written = compare-list;
   entries-read-back = λ s t rs qs f. entries-read-back s t rs qs (f .first) (f .second);
   list-always-room = λ s t rs qs f. entries-room s t rs qs (f .first) (f .second);
-  some-files = (before, after, three-entries, three-fit .0, three-fit .1);
-  some-refused = (twice, one-byte, refused-in-order .0, refused-in-order .1);
+  some-files = (before, after, refl, refl, three-entries, three-fit .0, three-fit .1);
+  some-refused = (twice, oneByte, refl, twice-same, refl, refused-in-order .0, refused-in-order .1);
+  some-unread = (fallingUnread, falling, refused-unread .0, refused-unread .1);
 }

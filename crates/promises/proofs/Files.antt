@@ -17,11 +17,12 @@ use Rattle.record.specs.Format.{recordLength}
 use Rattle.record.specs.Records.{readOf, isRecord, readRefusalOf}
 use Rattle.record.proofs.Unrefused.{refusal-numbered, read-accepted}
 use Rattle.files.specs.Files.{answers, answersIn, recordsAmong, when, rises, lengthCases, readingCases, orderCases, fileCases}
-use Rattle.files.specs.Claims.{holdsBelow, casesBelow}
-use Rattle.files.proofs.Order.{moment-order}
+use Rattle.rows.specs.Table.{someBelow}
+use Rattle.rows.proofs.Accepted.{some-same}
+use Rattle.instants.proofs.Order.{moment-order}
 use Rattle.compare.specs.Compare.{entriesOf, compareOf, compareRefusalOf}
 use Rattle.compare.proofs.Promises.{compare-refusal}
-use Rattle.promises.specs.AnyInput.{refusal12, readAt, refusals-reading, notBefore, refusal28, fileRefusals}
+use Rattle.promises.specs.AnyInput.{refusal12, casesBelow, readAt, recordRefusals, notBefore, refusal28, fileRefusals}
 
 -- ---- by place
 
@@ -31,9 +32,15 @@ next-read s k =
     let e : 30 * suc k ≡ 30 + 30 * k = omega arith in
     ap (λ (i : ℕ). readOf (drop i s)) e ∙ ap readOf (sym (drop-drop (30 * k) 30 s))
 
-holds-same : (n : ℕ) (f g : ℕ → Bool) → ((k : ℕ) → f k ≡ g k) → holdsBelow n f ≡ holdsBelow n g
-holds-same zero f g h = refl
-holds-same (suc n) f g h = ap₂ _||_ (h 0) (holds-same n (λ k. f (suc k)) (λ k. g (suc k)) (λ k. h (suc k)))
+-- a test at one of the first places is that at the front, or at one of the others
+some-front : (n : ℕ) (f : ℕ → Bool) → someBelow (suc n) f ≡ (f 0 || someBelow n (λ k. f (suc k)))
+some-front zero f = refl
+some-front (suc n) f = ap (λ (b : Bool). f (suc n) || b) (some-front n f) ∙ swap (f (suc n)) (f 0) (someBelow n (λ k. f (suc k)))
+  where
+    swap : (a b c : Bool) → (a || (b || c)) ≡ (b || (a || c))
+    swap true true c = refl
+    swap true false c = refl
+    swap false b c = refl
 
 cases-same : (n : ℕ) (f g : ℕ → Case) → ((k : ℕ) → f k ≡ g k) → casesBelow n f ≡ casesBelow n g
 cases-same zero f g h = refl
@@ -65,7 +72,7 @@ neither true b = refl
 neither false b = refl
 
 -- where all records read, one is not before the next exactly when they do not rise
-order : (n : ℕ) (s : List ℕ) → NoneApplies (readingCases (answers n s)) → not (rises (recordsAmong (answers n s))) ≡ holdsBelow (n - 1) (λ k. notBefore (readAt s k) (readAt s (suc k)))
+order : (n : ℕ) (s : List ℕ) → NoneApplies (readingCases (answers n s)) → not (rises (recordsAmong (answers n s))) ≡ someBelow (n - 1) (λ k. notBefore (readAt s k) (readAt s (suc k)))
 order zero s h = refl
 order (suc zero) s h = by (readOf s) h
   where
@@ -90,14 +97,14 @@ order (suc (suc n)) s h = by (readOf s) refl (readOf (drop recordLength s)) refl
     more = answers n (drop recordLength (drop recordLength s))
 
     by : (a : ReadAnswer) → readOf s ≡ a → (b : ReadAnswer) → readOf (drop recordLength s) ≡ b → NoneApplies (readingCases (a ∷ b ∷ more))
-        → (NoneApplies (readingCases (b ∷ more)) → not (rises (recordsAmong (b ∷ more))) ≡ holdsBelow (suc n - 1) g) → not (rises (recordsAmong (a ∷ b ∷ more))) ≡ holdsBelow (suc (suc n) - 1) f
+        → (NoneApplies (readingCases (b ∷ more)) → not (rises (recordsAmong (b ∷ more))) ≡ someBelow (suc n - 1) g) → not (rises (recordsAmong (a ∷ b ∷ more))) ≡ someBelow (suc (suc n) - 1) f
     by (NoRecord m) p b q h i = absurd (true≢false (h .0))
     by (IsRecord r) p (NoRecord m) q h i = absurd (true≢false (h .1 .0))
     by (IsRecord r) p (IsRecord u) q h i =
         let o = moment-order (r .day) (r .micros) (u .day) (u .micros) (read-accepted s r p) (read-accepted (drop recordLength s) u q) in
         neither (ltb (when r) (when u)) (rises (u ∷ recordsAmong more))
-        ∙ (ap₂ _||_ (ap not o ∙ sym (ap₂ notBefore p q)) (i (h .1) ∙ (ap (λ (k : ℕ). holdsBelow k g) (less n) ∙ holds-same n g (λ k. f (suc k)) one-on))
-        ∙ ap (λ (k : ℕ). holdsBelow k f) (sym (less (suc n))))
+        ∙ (ap₂ _||_ (ap not o ∙ sym (ap₂ notBefore p q)) (i (h .1) ∙ (ap (λ (k : ℕ). someBelow k g) (less n) ∙ some-same g (λ k. f (suc k)) n (λ k _. one-on k)))
+        ∙ (sym (some-front n f) ∙ ap (λ (k : ℕ). someBelow k f) (sym (less (suc n)))))
 
 -- ---- a file
 
@@ -107,12 +114,12 @@ file-figures s more =
     let n : ℕ = length s / recordLength in
     let R : List Case = readingCases (answers n s) in
     let O : List Case = orderCases (recordsAmong (answers n s)) in
-    first-behind (lengthCases (length s)) ((R ++ O) ++ more) ((refusals-reading s ++ refusal28 s ∷ []) ++ more)
+    first-behind (lengthCases (length s)) ((R ++ O) ++ more) ((recordRefusals s ++ refusal28 s ∷ []) ++ more)
     (λ _.
     ap firstRefusal (append-assoc R O more)
     ∙ (first-behind R (O ++ more) (refusal28 s ∷ more) (λ h. ap (λ (b : Bool). firstRefusal (case 28 b ∷ more)) (order n s h))
     ∙ (ap (λ (cs : List Case). firstRefusal (cs ++ refusal28 s ∷ more)) (reading n s)
-    ∙ ap firstRefusal (sym (append-assoc (refusals-reading s) (refusal28 s ∷ []) more)))))
+    ∙ ap firstRefusal (sym (append-assoc (recordRefusals s) (refusal28 s ∷ []) more)))))
 
 -- ---- two files
 

@@ -19,6 +19,7 @@ use Rattle.instants.specs.Refusals.{Case, case, firstRefusal}
 use Rattle.instants.specs.Instants.{instantCases}
 use Rattle.instants.proofs.Accepted.{both-false}
 use Rattle.instants.proofs.FirstRefusal.{handed-on}
+use Rattle.files.proofs.Records.{both}
 use Rattle.rows.specs.declared.Row.{Row}
 use Rattle.rows.specs.Table.{rowAt, dayOut, notAfter, numberOut, someBelow, daysWrong, numbersWrong, tableCases}
 use Rattle.rows.proofs.Accepted.{some-same}
@@ -30,10 +31,6 @@ use Rattle.promises.specs.AnyInput.{tableLength, tableRows, tableDay, ta
 
 -- ---- the length
 
-both-true : (a b : Bool) → (a && b) ≡ true → (a ≡ true) × (b ≡ true)
-both-true true b e = (refl, e)
-both-true false b e = (e, absurd (true≢false (sym e)))
-
 -- of the five tests of the definition the last three are one of the figures
 module _ (n : ℕ) where
   abbrev otherLength : Bool
@@ -42,8 +39,8 @@ module _ (n : ℕ) where
   -- a length of the figures is one of the definition
   table : tableLength n ≡ true → otherLength ≡ false
   table e =
-      let p = both-true (leb 35 n) (leb n 3203 && eqb (n % 16) 3) e in
-      let q = both-true (leb n 3203) (eqb (n % 16) 3) (p .1) in
+      let p = both (leb 35 n) (leb n 3203 && eqb (n % 16) 3) e in
+      let q = both (leb n 3203) (eqb (n % 16) 3) (p .1) in
       let l : 35 ≤ n = leb-true _ _ (p .0) in
       let h : n ≤ 3203 = leb-true _ _ (q .0) in
       let r : n % 16 ≡ 3 = eqb-true _ _ (q .1) in

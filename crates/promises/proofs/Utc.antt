@@ -1,21 +1,20 @@
 -- The refusals of UTC readings, of phases, and of instants out of the list's reach, in the figures of specs/AnyInput.antt: where the cases before them do not apply,
 -- dates in their order have rising indices, and days with their microseconds rising moments. Assumes nothing.
-use Prim.Native.Nat.{ℕ, _+_, _-_, _≤_, _<_}
-use mathlib.Core.Path.{_≡_, refl, sym, _∙_, ap}
-use mathlib.Core.Bool.{not, _&&_, _||_}
+use Prim.Native.Nat.{ℕ, _+_, _-_, _≤_}
+use mathlib.Core.Path.{_≡_, refl, _∙_, ap}
+use mathlib.Core.Bool.{not}
 use mathlib.Core.List.{List, [], _∷_, _++_}
 use native.Mathlib.Omega.{arith}
 use native.Mathlib.Decide.{decLe}
 use lib.Dec.{T, ltb, leb}
 use lib.IntN.{ℤ, pos}
 use borrow.Author.Tests.{lt-ltb, le-ltb, le-leb, lt-leb}
-use Rattle.instants.specs.Limits.{dayMicros, indexOffset}
 use Rattle.instants.specs.Refusals.{Case, firstRefusal}
-use Rattle.instants.specs.Instants.{dayIndex, instantCases}
-use Rattle.instants.specs.Moments.{moment, momentOf}
+use Rattle.instants.specs.Instants.{outside, dayIndex, instantCases, IsAccepted}
+use Rattle.instants.specs.Moments.{momentOf}
 use Rattle.instants.proofs.FirstRefusal.{handed-on, first-behind}
-use Rattle.instants.proofs.Signs.{day-natural}
-use Rattle.instants.proofs.Accepted.{AcceptedAt, none-accepted}
+use Rattle.instants.proofs.Accepted.{AcceptedAt, none-accepted, accepted}
+use Rattle.instants.proofs.Order.{moment-order}
 use Rattle.calendar.specs.Dates.{date, leapYear, monthLengths, sum, monthLength, yearLength, daysOfYears, daysBefore, dateIndex, dateCases}
 use Rattle.calendar.specs.Times.{timeCases, instantRefusalOf}
 use Rattle.calendar.specs.declared.InstantAnswer.the-variants.{NoInstant}
@@ -91,31 +90,22 @@ module _ (r : Reading) where
 
 -- ---- an instant
 
--- moments are in the order of their days and microseconds
-in-order : (d e m n : ℕ) → m < dayMicros → n < dayMicros → ltb (moment (d + indexOffset) m) (moment (e + indexOffset) n) ≡ ltb d e || (leb d e && ltb m n)
-in-order d e m n h k = by (decLe e d) (decLe d e) (decLe n m)
-  where
-    x : ℕ
-    x = moment (d + indexOffset) m
+-- the limits are accepted instants
+first-accepted : IsAccepted (pos 41317) 42_184_000
+unfolding outside
+first-accepted = accepted (pos 41317) 42_184_000 refl (omega arith)
 
-    y : ℕ
-    y = moment (e + indexOffset) n
-
-    by : Dec (e ≤ d) → Dec (d ≤ e) → Dec (n ≤ m) → ltb x y ≡ ltb d e || (leb d e && ltb m n)
-    by (no p) q r = rw (lt-ltb d e (omega (arith, p)), lt-ltb x y (omega (arith, p))) refl
-    by (yes p) (no q) r = rw (le-ltb d e p, lt-leb d e (omega (arith, q)), le-ltb x y (omega (arith, q))) refl
-    by (yes p) (yes q) (yes r) = rw (le-ltb d e p, le-leb d e q, le-ltb m n r, le-ltb x y (omega (arith, p, r))) refl
-    by (yes p) (yes q) (no r) = rw (le-ltb d e p, le-leb d e q, lt-ltb m n (omega (arith, r)), lt-ltb x y (omega (arith, q, r))) refl
+expiry-accepted : IsAccepted (pos 60854) 69_184_000
+unfolding outside
+expiry-accepted = accepted (pos 60854) 69_184_000 refl (omega arith)
 
 module _ (d : ℤ) (m : ℕ) where
   -- what is behind the instant's cases, in figures
   covered : AcceptedAt d m (dayIndex d) → firstRefusal (momentCases (momentOf d m)) ≡ firstRefusal (refusal19-tt d m ∷ refusal20-tt d m ∷ [])
+  unfolding dayIndex
   covered k =
-      let e = dayIndex d - indexOffset in
-      let i : e + indexOffset ≡ dayIndex d = omega (arith, k .low) in
-      let z : d ≡ pos e = k .is ∙ day-natural (dayIndex d) (omega (arith, k .low)) in
-      rw (first-begins, expiry-begins, turned 16_583_140_869_184_000 (momentOf d m), ← i, in-order e 41317 m 42_184_000 (k .less) (omega arith), in-order e 60854 m 69_184_000 (k .less) (omega arith))
-      (ap (λ (d : ℤ). firstRefusal (refusal19-tt d m ∷ refusal20-tt d m ∷ [])) (sym z))
+      let a = accepted d m (k .inside) (k .less) in
+      rw (first-begins, expiry-begins, turned 16_583_140_869_184_000 (momentOf d m), moment-order d m (pos 41317) 42_184_000 a first-accepted, moment-order d m (pos 60854) 69_184_000 a expiry-accepted) refl
 
   pub handed-instants : readingRefusalOf (utcOf d m) ≡ firstRefusal (instantCases d m ++ momentCases (momentOf d m))
   unfolding utcOf

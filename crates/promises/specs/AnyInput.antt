@@ -4,7 +4,7 @@
 -- The rules are written out here a second time, with their figures and apart from the lists and limits of the definitions (the length of a month, the
 -- mark, numbers and sums in bytes, that some row of a table has a fault, a later day, what a rescue keeps and passes, what reading a record of a file gives
 -- and the entries of a comparison are theirs): first when each refusal is given, then for each service its refusals in their order.
-use Prim.Native.Nat.{ℕ, suc, _+_, _-_, _*_, _/_, _%_}
+use Prim.Native.Nat.{ℕ, zero, suc, _+_, _-_, _*_, _/_, _%_}
 use mathlib.Core.Path.{_≡_}
 use mathlib.Core.Bool.{Bool, cond, not, _&&_, _||_}
 use mathlib.Core.List.{List, [], _∷_, _++_}
@@ -37,7 +37,6 @@ use Rattle.bigendian.specs.Numbers.{numberAt, wordSum, signedOf}
 use Rattle.rows.specs.Table.{someBelow}
 use Rattle.record.specs.Records.{writeRefusal, written, readOf, recordDayOf, recordDayOr, recordMicrosOf, recordMicrosOr, recordUt1Of, recordUt1Or, recordLodOf, recordLodOr, recordRateOf, recordRateOr, readRefusalOf}
 use Rattle.record.specs.declared.ReadAnswer.{ReadAnswer}
-use Rattle.files.specs.Claims.{holdsBelow, casesBelow}
 use Rattle.compare.specs.Compare as compared
 use Rattle.compare.specs.Compare.{entriesOf, compareOf, entriesNumberOf, compareRefusalOf}
 use Rattle.run.specs.Run.{runRefusal, runWritten}
@@ -227,20 +226,26 @@ readAt s k = readOf (drop (30 * k) s)
 abbrev pub refusal27 : List ℕ → Case
 refusal27 s = case 27 (not (eqb (length s % 30) 0) || ltb 65520 (length s))
 
--- the refusals of reading its records, one after the other
-abbrev pub refusals-reading : List ℕ → List Case
-refusals-reading s = casesBelow (length s / 30) (λ k. case (readRefusalOf (readAt s k)) (not (eqb (readRefusalOf (readAt s k)) 0)))
+-- the cases f 0, f 1, .. f (n - 1)
+abbrev pub casesBelow : ℕ → (ℕ → Case) → List Case
+casesBelow zero f = []
+casesBelow (suc n) f = f 0 ∷ casesBelow n (λ k. f (suc k))
 
--- a record whose instant is not before that of the next
+-- the refusals of reading its records, one after the other
+abbrev pub recordRefusals : List ℕ → List Case
+recordRefusals s = casesBelow (length s / 30) (λ k. case (readRefusalOf (readAt s k)) (not (eqb (readRefusalOf (readAt s k)) 0)))
+
+-- the instant of one answer's record is not before that of another's
 abbrev pub notBefore : ReadAnswer → ReadAnswer → Bool
 notBefore a b = not (instantBefore (recordDayOf a) (recordMicrosOf a) (recordDayOf b) (recordMicrosOf b))
 
+-- an instant that is not before the next
 abbrev pub refusal28 : List ℕ → Case
-refusal28 s = case 28 (holdsBelow (length s / 30 - 1) (λ k. notBefore (readAt s k) (readAt s (suc k))))
+refusal28 s = case 28 (someBelow (length s / 30 - 1) (λ k. notBefore (readAt s k) (readAt s (suc k))))
 
 -- the refusals of a file
 abbrev pub fileRefusals : List ℕ → List Case
-fileRefusals s = refusal27 s ∷ (refusals-reading s ++ refusal28 s ∷ [])
+fileRefusals s = refusal27 s ∷ (recordRefusals s ++ refusal28 s ∷ [])
 
 -- ---- the demand: each service by its list, its numbers, bytes that stay
 

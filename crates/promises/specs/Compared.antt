@@ -8,7 +8,7 @@ use lib.IntN.{ℤ, pos, negsuc, _-ℤ_}
 use lib.ListN.{length, drop}
 use Rattle.record.specs.declared.Record.{Record}
 use Rattle.record.specs.declared.ReadAnswer.the-variants.{IsRecord}
-use Rattle.record.specs.Records.{readOf}
+use Rattle.record.specs.Records.{readOf, recordDayOf, recordMicrosOf}
 use Rattle.files.specs.Files.{IsFile, fileOf, fileRefusalOf}
 use Rattle.compare.specs.declared.Entry.{Entry}
 use Rattle.compare.specs.declared.CompareAnswer.the-variants.{Compared, NoComparison}
@@ -61,9 +61,13 @@ pub record ComparedExactly : Type 0 where
   pub entries-read-back : (s t : List ℕ) (rs qs : List Record) → Files s t rs qs → (behind : List ℕ) → listed (length (entriesOf s t)) (listBytes (entriesOf s t) ++ behind) ≡ entriesOf s t
   -- 161,616 bytes hold every list
   pub list-always-room : (s t : List ℕ) (rs qs : List Record) → Files s t rs qs → (n : ℕ) → 161616 ≤ n → compareRefusalOf (compareOf s t n) ≡ 0
-  -- there are such files: with an entry of each side, a difference that 32 bits do not hold, and room for them or a byte less; and a file with one instant twice
-  -- is refused before a second file of one byte, and after it
-  pub some-files : (s : List ℕ) × (t : List ℕ)
+  -- there are such files, of three records each: with an entry of each side, a difference that 32 bits do not hold, and room for them or a byte less
+  pub some-files : (s : List ℕ) × (t : List ℕ) × (length s ≡ 90) × (length t ≡ 90)
       × (entriesOf s t ≡ entry 1 (pos 54465) 0 (pos 0) (pos 0) (pos 0) ∷ entry 3 (pos 54465) 900_000_000 (pos 4_294_967_295) (pos 0) (negsuc 0) ∷ entry 2 (pos 54466) 0 (pos 0) (pos 0) (pos 0) ∷ [])
       × (compareOf s t 111 ≡ Compared 3) × (compareOf s t 110 ≡ NoComparison 12)
-  pub some-refused : (s : List ℕ) × (t : List ℕ) × (compareOf s t 0 ≡ NoComparison 28) × (compareOf t s 0 ≡ NoComparison 27)
+  -- and such as are refused: one record twice is refused by 28, and one byte by 27, whichever comes first
+  pub some-refused : (s : List ℕ) × (t : List ℕ) × (length s ≡ 60) × (readOf s ≡ readOf (drop 30 s)) × (length t ≡ 1)
+      × (compareOf s t 0 ≡ NoComparison 28) × (compareOf t s 0 ≡ NoComparison 27)
+  -- and one whose first two instants fall and whose third record has another version, by 14
+  pub some-unread : (s : List ℕ) × (instantBefore (recordDayOf (readOf (drop 30 s))) (recordMicrosOf (readOf (drop 30 s))) (recordDayOf (readOf s)) (recordMicrosOf (readOf s)) ≡ true)
+      × (compareOf s [] 0 ≡ NoComparison 14) × (compareOf [] s 0 ≡ NoComparison 14)

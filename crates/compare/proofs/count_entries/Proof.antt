@@ -49,11 +49,11 @@ start-requires c κs = λ k. absurd (true≢false (sym k))
 loop-holds : tie.Need-loop-holds Inv-loop μ-loop
 loop-holds c = counting-none _ _ _ (c .start .ensures)
 
-listed-requires : tie.Need-listed-requires Inv-loop μ-loop
-listed-requires c κs = counting-going (at c .loop .inv) (c .if1 .taken)
+count-here-requires : tie.Need-count-here-requires Inv-loop μ-loop
+count-here-requires c κs = counting-going (at c .loop .inv) (c .if1 .taken)
 
 add-entries : tie.Need-add-entries Inv-loop μ-loop
-add-entries c = let m = more (c .before) _ (c .listed .ensures) in record { fits = omega (arith, m .few, m .first .within, m .second .within) }
+add-entries c = let m = more (c .before) _ (c .count-here .ensures) in record { fits = omega (arith, m .few, m .first .within, m .second .within) }
 
 next-requires : tie.Need-next-requires Inv-loop μ-loop
 next-requires c κs = counting-going (at (c .before) .loop .inv) (c .before .if1 .taken)
@@ -62,7 +62,7 @@ loop-less : tie.Need-loop-less Inv-loop μ-loop
 loop-less c = let l = c .before .before in step-less (counting-going (at l .loop .inv) (l .if1 .taken)) _ (c .next .ensures)
 
 loop-again : tie.Need-loop-again Inv-loop μ-loop
-loop-again c = let l = c .before in counting-more (at (l .before) .loop .inv) (l .before .if1 .taken) _ _ (l .listed .ensures) (c .next .ensures)
+loop-again c = let l = c .before in counting-more (at (l .before) .loop .inv) (l .before .if1 .taken) _ _ (l .count-here .ensures) (c .next .ensures)
 
 returns : tie.Need-returns Inv-loop μ-loop
 returns c = let e = c .before .before in counting-first (e .before .before .before .loop .inv) (ended e .0) (c .if2 .taken)
@@ -81,7 +81,7 @@ count-entries-spec =
     μ-loop
     start-requires
     loop-holds
-    listed-requires
+    count-here-requires
     add-entries
     next-requires
     loop-less

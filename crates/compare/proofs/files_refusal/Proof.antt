@@ -2,8 +2,7 @@
 use mathlib.Core.Path.{sym, _∙_}
 use Rattle.instants.proofs.FirstRefusal.{refused-append, refused-first, none-answered}
 use Rattle.files.specs.Files.{fileCases}
-use Rattle.files.specs.Inner.{fileRefusal}
-use Rattle.files.proofs.Refused.{unrefused}
+use Rattle.files.proofs.Refused.{file-refusal, unrefused}
 use Rattle.compare.specs.Inner.{filesRefusal}
 use denote.Ref.{now}
 use borrow.Author.Needs.{needs}
@@ -14,23 +13,24 @@ refusal-requires : tie.Need-refusal-requires
 refusal-requires c κs = search needs
 
 returns : tie.Need-returns
-unfolding filesRefusal fileRefusal
+unfolding filesRefusal
 returns c =
     let n = c .before in
     let a = n .before .before .before .args in
-    n .refusal .ensures
-    ∙ sym (refused-append (λ n. n) (fileCases (now (a .s))) (fileCases (now (a .t))) 0 ∙ refused-first (λ n. n) (fileCases (now (a .s))) _ (λ z. c .if1 .taken (n .refusal .ensures ∙ z)))
+    let e = n .refusal .ensures ∙ file-refusal (now (a .s)) in
+    e
+    ∙ sym (refused-append (λ n. n) (fileCases (now (a .s))) (fileCases (now (a .t))) 0 ∙ refused-first (λ n. n) (fileCases (now (a .s))) _ (λ z. c .if1 .taken (e ∙ z)))
 
 refusal-requires-2 : tie.Need-refusal-requires-2
 refusal-requires-2 c κs = search needs
 
 returns-2 : tie.Need-returns-2
-unfolding filesRefusal fileRefusal
+unfolding filesRefusal
 returns-2 c =
     let n = c .before .before in
     let a = n .before .before .before .args in
-    c .refusal2 .ensures
-    ∙ sym (refused-append (λ n. n) (fileCases (now (a .s))) (fileCases (now (a .t))) 0 ∙ none-answered (λ n. n) (fileCases (now (a .s))) _ (unrefused (now (a .s)) (sym (n .refusal .ensures) ∙ c .before .if1 .left)))
+    c .refusal2 .ensures ∙ file-refusal (now (a .t))
+    ∙ sym (refused-append (λ n. n) (fileCases (now (a .s))) (fileCases (now (a .t))) 0 ∙ none-answered (λ n. n) (fileCases (now (a .s))) _ (unrefused (now (a .s)) (sym (n .refusal .ensures ∙ file-refusal (now (a .s))) ∙ c .before .if1 .left)))
 
 pub files-refusal-spec : {M : Type 1} → statement M
 files-refusal-spec =

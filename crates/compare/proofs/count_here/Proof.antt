@@ -1,4 +1,4 @@
--- `compare::listed` meets its contract: each return has the tests that led there. Assumes nothing.
+-- `compare::count_here` meets its contract: each return has the tests that led there. Assumes nothing.
 use mathlib.Core.Path.{_≡_, refl, ap₂, sym, _∙_}
 use borrow.Author.Tests.{lt-ltb, le-ltb}
 use denote.Ref.{now}
@@ -6,8 +6,8 @@ use Rattle.compare.specs.Walk.{sameNumbers}
 use Rattle.compare.specs.Inner.{recordAt}
 use Rattle.compare.proofs.Steps.{first-found, second-found, found-reads}
 use borrow.Author.Needs.{needs}
-use Rattle.compare.proofs.listed.Statement.{statement}
-use Rattle.compare.proofs.listed.Tie as tie
+use Rattle.compare.proofs.count_here.Statement.{statement}
+use Rattle.compare.proofs.count_here.Tie as tie
 
 -- the call, where the moments are one
 abbrev start : tie.Else2 → tie.Start
@@ -39,8 +39,8 @@ returns-3 c = let e = c .before .before .before .before in rw (le-ltb _ _ (e .be
 returns-4 : tie.Need-returns-4
 returns-4 c = let e = c .before .before .before .before in rw (le-ltb _ _ (e .before .before .if1 .left), le-ltb _ _ (e .if2 .left), sym (says (c .before)) ∙ c .if3 .left) refl
 
-pub listed-spec : {M : Type 1} → statement M
-listed-spec =
+pub count-here-spec : {M : Type 1} → statement M
+count-here-spec =
     tie.close
     (tie.spec
     returns
