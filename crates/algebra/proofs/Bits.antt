@@ -18,7 +18,7 @@ read_back z = to_z w64 (of_z w64 z)
 
 -- what fits is read back as it was
 pub read_same : (z : ℤ) → mag z < 2 ^ 63 → read_back z ≡ z
-read_same z h = to_z-of_z (record { sfits = h })
+read_same z h = to_z-of_z {w = w64} (record { sfits = h })
 
 -- x is the number z, whose magnitude is at most b, and so much fits
 pub record InBits (x z : ℤ) (b : ℕ) : Type 0 where

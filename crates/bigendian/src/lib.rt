@@ -1,8 +1,11 @@
 // Numbers as big-endian bytes, the fields of a byte form, signed numbers in two's complement, and sums of 16-bit words.
+#![tactic(auto)]
+
 ghost use Rattle.std.specs.Prelude.{◌≡◌, ◌+◌, ◌*◌, ◌%◌, ◌^◌, ◌<◌, ◌≤◌, ◌++◌, length, take, drop, FitsSigned};
 ghost use Rattle.std.specs.Int.{w32};
 ghost use Rattle.bigendian.specs.Numbers.{bytes_of, number_at, word_sum, twos_complement, signed_of};
 ghost use Rattle.bigendian.specs.Fields.{field_at};
+ghost use Rattle.bigendian.specs.Buffers.{at_front};
 ghost use Rattle.bigendian.specs.Inner.{with_field};
 
 // The place of a number in a byte form: its first byte, and its number of bytes.
@@ -115,4 +118,15 @@ pub fn signed_of(n: u64) -> i32
         return n as i32;
     }
     ((n as i64) - 0x1_0000_0000) as i32
+}
+
+// Copies s over the front of a buffer, and returns its length.
+pub fn copy(s: &[u8], buffer: &mut [u8]) -> usize
+    requires { length s.now ≤ length buffer.old }
+    ensures size { result ≡ length s.now }
+    ensures buffer { buffer.new ≡ at_front s.now buffer.old }
+{
+    let n = s.len();
+    buffer[..n].copy_from_slice(s);
+    n
 }

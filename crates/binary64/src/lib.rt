@@ -1,5 +1,7 @@
 // Binary64 numbers reduced to a range that begins at 0 and ends below a period.
 // Derived from the IERS routines TDFRPH and ARG2; not IERS Conventions software (NOTICE, docs/DIFFERENCES.md).
+#![tactic(auto)]
+
 ghost use Rattle.std.specs.Prelude.{◌≡◌};
 ghost use Rattle.binary64.specs.Reduction.{settled, reduced};
 

@@ -1,4 +1,5 @@
 // What differs between two record files: a walk over both in the order of their instants, once to test and to count, once to write.
+#![tactic(auto)]
 ghost use Rattle.std.specs.Prelude.{◌≡◌, true, false, ◌≤◌, ◌-ℤ◌, length, drop};
 ghost use Rattle.std.specs.Int.{w32};
 ghost use Rattle.std.proofs.Common.{SFits};
@@ -255,7 +256,7 @@ fn put_entry(e: Entry, list: &mut [u8]) -> usize
 {
     let n = ENTRY;
     let b = entry_bytes(e);
-    bytes::copy(&b[..n], list)
+    bigendian::copy(&b[..n], list)
 }
 
 // Puts what is listed at a place of a walk at the front of the list, and returns how many bytes it has.

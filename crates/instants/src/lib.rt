@@ -1,4 +1,6 @@
 // Instants of Terrestrial Time: which are accepted, the instant some microseconds later, and the one number of microseconds that the sums count in.
+#![tactic(auto)]
+
 ghost use Rattle.std.specs.Prelude.{◌≡◌, ◌<◌};
 ghost use Rattle.instants.specs.Limits.{day_micros, days_covered};
 ghost use Rattle.instants.specs.Instants.{day_at_index, acceptance, IsAccepted};

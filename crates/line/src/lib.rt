@@ -1,4 +1,6 @@
 // The line of run_day: five decimal numbers of 1 to 10 digits, one space between and a newline after.
+#![tactic(auto)]
+
 ghost use Rattle.std.specs.Prelude.{◌≡◌, drop};
 ghost use Rattle.line.specs.Lines.{is_digit, read_number, line_of};
 ghost use Rattle.line.specs.Inner.{start_of};

@@ -1,4 +1,5 @@
 // Records of thirty bytes: one written, one read.
+#![tactic(auto)]
 ghost use Rattle.std.specs.Prelude.{◌≡◌, ◌≤◌, true, [], ◌∷◌, ◌++◌, length, pos, FitsSigned};
 ghost use Rattle.std.specs.Int.{w32};
 ghost use Rattle.bigendian.specs.Numbers.{twos_complement};
@@ -105,7 +106,7 @@ pub fn write(day: i64, micros: u64, ut1: i32, lod: i32, rate: i32, buffer: &mut 
                 return 12;
             }
             let s = record_bytes(w, ut1, lod, rate);
-            bytes::copy(&s[..n], buffer);
+            bigendian::copy(&s[..n], buffer);
             0
         }
     }

@@ -1,1 +1,2 @@
 // The reference values: one list in specs/Rows.antt, and one claim about it in proofs/Hold.antt. There is no code.
+#![tactic(auto)]

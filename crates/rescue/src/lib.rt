@@ -1,4 +1,5 @@
 // Records rescued from damaged bytes: a walk keeps what reads as a record and passes every other byte.
+#![tactic(auto)]
 ghost use Rattle.std.specs.Prelude.{◌≡◌, cond, ◌*◌, ◌≤◌, length};
 ghost use Rattle.bigendian.specs.Buffers.{at_front};
 ghost use Rattle.rescue.specs.Rescue.{most_bytes, entry_length, counts_of, kept_bytes, list_bytes, ranges_in, rescue_of, records_after, list_after, rescue_refusal_of};
@@ -132,7 +133,7 @@ fn fill(s: &[u8], records: &mut [u8], list: &mut [u8])
         let from = next_record(s, at);
         listed += put_range(at, from, &mut list[listed..]);
         at = records_end(s, from);
-        kept += bytes::copy(&s[from..at], &mut records[kept..]);
+        kept += bigendian::copy(&s[from..at], &mut records[kept..]);
     }
 }
 

@@ -1,4 +1,5 @@
 // What the program rescue_records writes: the kept records, and a report of what was passed.
+#![tactic(auto)]
 ghost use Rattle.std.specs.Prelude.{◌≡◌, ◌++◌, ◌+◌, ◌*◌, ◌≤◌, length};
 ghost use Rattle.bigendian.specs.Buffers.{at_front};
 ghost use Rattle.rescue.specs.Walk.{range};
@@ -32,7 +33,7 @@ fn put_line(start: u64, size: u64, buffer: &mut [u8]) -> usize
 {
     let passed = text::put_counted(b"passed ", size, buffer);
     let at = passed + text::put_counted(b" bytes at ", start, &mut buffer[passed..]);
-    at + bytes::copy(b"\n", &mut buffer[at..])
+    at + bigendian::copy(b"\n", &mut buffer[at..])
 }
 
 // Puts a line for each of the first n entries of the list at the front of the buffer and returns their length.
@@ -63,7 +64,7 @@ fn put_totals(c: Counts, buffer: &mut [u8]) -> usize
     let kept = text::put_counted(b"kept ", c.kept, buffer);
     let passed = kept + text::put_counted(b" records, passed ", c.passed, &mut buffer[kept..]);
     let ranges = passed + text::put_counted(b" bytes in ", c.ranges, &mut buffer[passed..]);
-    ranges + bytes::copy(b" ranges\n", &mut buffer[ranges..])
+    ranges + bigendian::copy(b" ranges\n", &mut buffer[ranges..])
 }
 
 // Puts the lines of the list's entries and the totals behind them at the front of the buffer, and returns their length.

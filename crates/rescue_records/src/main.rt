@@ -1,5 +1,6 @@
 // The program rescue_records: it reads standard input, calls `rescue_lines::answer`, and writes the kept records to standard output and the report to standard error. Its stored
 // input is a few records, some of them damaged.
+#![tactic(auto)]
 use libc::{STDERR_FILENO, STDIN_FILENO, STDOUT_FILENO};
 
 // Of so many bytes read and the most that are: says that the input was not read to its end, where there are fewer and one more read does not give the end.

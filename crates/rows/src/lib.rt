@@ -1,5 +1,6 @@
 // Rows of amplitudes of the free core nutation: a row, its date and its limits, and a moment's place among rows.
 // Derived from the IERS routine FCNNUT; not IERS Conventions software (NOTICE, docs/DIFFERENCES.md).
+#![tactic(auto)]
 ghost use Rattle.std.specs.Prelude.{◌≡◌, ltb, nat_abs};
 ghost use Rattle.rows.specs.Table.{largest, day_out, number_out};
 ghost use Rattle.rows.specs.Places.{row_moment};

@@ -1,4 +1,5 @@
 // Limits on each side: the count of a run and the seconds of a time of day; and lines of each kind: answered, refused, bad.
+#![tactic(auto)]
 use calendar::InstantAnswer;
 use libc::STDOUT_FILENO;
 

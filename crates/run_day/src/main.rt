@@ -1,5 +1,6 @@
 // The program run_day: it reads a line from standard input, calls `run_line::answer`, and writes what that puts into the buffer. Its stored input asks for a day of
 // ninety-six quarter-hour records.
+#![tactic(auto)]
 ghost use Rattle.std.specs.Prelude.{◌≤◌, length};
 
 use libc::{STDERR_FILENO, STDIN_FILENO, STDOUT_FILENO};

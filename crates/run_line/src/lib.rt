@@ -1,4 +1,5 @@
 // The answer of run_day to a line of input: the bytes that it writes.
+#![tactic(auto)]
 ghost use Rattle.std.specs.Prelude.{◌≡◌, ◌^◌, ◌<◌, length};
 ghost use Rattle.bigendian.specs.Buffers.{at_front};
 ghost use Rattle.run_line.specs.Answer.{room, day_run_text, answer_text};
@@ -27,7 +28,7 @@ pub fn answer(s: &[u8], buffer: &mut [u8; 2880]) -> usize
     ensures buffer { buffer.new ≡ at_front (answer_text s.now) buffer.old }
 {
     match line::parse(s) {
-        LineAnswer::BadLine => bytes::copy(b"bad line\n", buffer),
+        LineAnswer::BadLine => bigendian::copy(b"bad line\n", buffer),
         LineAnswer::Parsed(l) => match calendar::day_of(l.year, l.month, l.day) {
             DayAnswer::NoDay(n) => text::refuse(n, buffer),
             DayAnswer::Day(d) => day_run(d, l.count, l.step, buffer),

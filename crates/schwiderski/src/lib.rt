@@ -1,5 +1,6 @@
 // Service (j): the eleven Schwiderski angles at a day of a year, in radians.
 // Derived from the IERS routine ARG2; not IERS Conventions software (NOTICE, docs/DIFFERENCES.md).
+#![tactic(auto)]
 ghost use Rattle.std.specs.Prelude.{◌≡◌, ◌≤◌, T, pos};
 ghost use Rattle.std.specs.Float.Ieee as Ieee;
 ghost use Rattle.binary64.specs.Words.{whole};

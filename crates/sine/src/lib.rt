@@ -1,5 +1,7 @@
 // The sine and the cosine in 64-bit whole numbers. An angle is in units of 2^-41 turn, and whole turns are removed; an answer is in units of 2^-31.
 // Their distance from the exact sine and cosine is proved in proofs/Distance.antt.
+#![tactic(auto)]
+
 ghost use Rattle.std.specs.Prelude.{◌≡◌, ◌-◌, ◌*◌, ◌/◌, ◌%◌, ◌^◌, ◌≤◌, ◌<◌, pos, neg_ℤ};
 ghost use Rattle.sine.specs.Ours.{quarter_parts, unit_squares, sine_quarter, our_sine, our_cosine};
 ghost use Rattle.sine.specs.Inner.{Reduced};

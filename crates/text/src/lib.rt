@@ -1,4 +1,5 @@
 // The programs' words: decimal numerals, and what is written of a refusal.
+#![tactic(auto)]
 ghost use Rattle.std.specs.Prelude.{◌≡◌, ◌++◌, ◌≤◌, length};
 ghost use Rattle.bigendian.specs.Buffers.{at_front};
 ghost use Rattle.text.specs.Text.{numeral, refusal_text};
@@ -39,7 +40,7 @@ pub fn put_counted(word: &[u8], n: u64, buffer: &mut [u8]) -> usize
     ensures size { result ≡ length (word.now ++ numeral n) }
     ensures buffer { buffer.new ≡ at_front (word.now ++ numeral n) buffer.old }
 {
-    let end = bytes::copy(word, buffer);
+    let end = bigendian::copy(word, buffer);
     end + put_numeral(n, &mut buffer[end..])
 }
 

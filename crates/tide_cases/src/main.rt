@@ -2,6 +2,7 @@
 // the frequency and of the phase. Then the angles of ARG2's test case beside its own, and eleven
 // angles bit by bit, a line for each case. What it must print, in stdout, is the output of an
 // independent implementation of docs/RULES.md.
+#![tactic(auto)]
 ghost use Rattle.std.specs.Prelude.{◌≡◌, cond};
 ghost use Rattle.std.specs.Float.Ieee as Ieee;
 ghost use Rattle.std.specs.Float.{binary64};

@@ -1,4 +1,5 @@
 // UTC readings, by the IERS list of leap seconds: which are accepted, their instants of Terrestrial Time (TT), and back.
+#![tactic(auto)]
 ghost use Rattle.std.specs.Prelude.{◌≡◌, ◌*◌, ◌≤◌, ◌<◌};
 ghost use Rattle.instants.specs.Limits.{day_micros, days_covered};
 ghost use Rattle.utc.specs.Table.{tai_minus_utc, tt_minus_utc};

@@ -1,4 +1,5 @@
 // The test case of RG_ZONT2, day 54465, microsecond 0: each number beside the routine's own, and how far apart they are in its unit.
+#![tactic(auto)]
 use libc::STDOUT_FILENO;
 use zonal::ZonalAnswer;
 
