@@ -37,14 +37,16 @@ all: archive program
 archive: $(ARCHIVE)
 program: $(PROGRAM) $(RESCUE) $(COMPARE)
 
+# `rt lib` and `rt run` leave what they make in the crate's folder out/
 $(ARCHIVE): $(CRATES)
-	$(RT) staticlib enfysgar
+	$(RT) lib enfysgar
+	@mkdir -p $(@D)
+	cp crates/enfysgar/out/libenfysgar.a $@
 
-$(PROGRAM): $(CRATES)
-	$(RT) check run_day
-
-$(RESCUE): $(CRATES)
-	$(RT) check rescue_records
+$(PROGRAM) $(RESCUE): target/bin/%: $(CRATES)
+	$(RT) run $* </dev/null >/dev/null
+	@mkdir -p $(@D)
+	cp crates/$*/out/$* $@
 
 build/examples/%: examples/%.c include/enfysgar.h $(ARCHIVE)
 	@mkdir -p build/examples

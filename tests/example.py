@@ -16,7 +16,7 @@ SANITIZED = ("-g", "-fsanitize=address,undefined", "-fno-sanitize-recover")
 def build(example, suffix="", flags=SANITIZED):
     """Builds examples/EXAMPLE.c; the path of the program."""
     if not os.path.exists(ARCHIVE):
-        sys.exit(f"{example}: no archive at {ARCHIVE}: run 'rt staticlib enfysgar' first")
+        sys.exit(f"{example}: no archive at {ARCHIVE}: run 'make archive' first")
     os.makedirs(BUILD, exist_ok=True)
     program = os.path.join(BUILD, example + suffix)
     subprocess.run(["cc", "-std=c11", "-O2", "-Wall", "-Wextra", "-Werror", *flags, "-I", os.path.join(ROOT, "include"), "-o", program,

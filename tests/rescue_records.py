@@ -157,7 +157,7 @@ def not_written():
 
 def main():
     if not os.access(PROGRAM, os.X_OK):
-        sys.exit(f"rescue_records: no program at {PROGRAM}: run 'rt check rescue_records' first")
+        sys.exit(f"rescue_records: no program at {PROGRAM}: run 'make program' first")
     rescue_rules.self_test()
     all_inputs = inputs()
     with ThreadPoolExecutor(os.cpu_count()) as pool:

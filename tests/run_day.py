@@ -253,7 +253,7 @@ def fail(data, got, want, more=""):
 
 def main():
     if not os.access(PROGRAM, os.X_OK):
-        sys.exit(f"run_day: no program at {PROGRAM}: run 'rt check run_day' first")
+        sys.exit(f"run_day: no program at {PROGRAM}: run 'make program' first")
     all_inputs = inputs()
     runs = expected_runs(all_inputs)
     with ThreadPoolExecutor(os.cpu_count()) as pool:

@@ -40,7 +40,7 @@ class Tree:
         for path in sorted(root.glob("crates/**/*.rt")):
             self.defined[path.relative_to(root).as_posix()] = self.of_rt(path.read_text(encoding="utf-8"))
         header = (root / "include/enfysgar.h").read_text(encoding="utf-8")
-        self.crates = set(re.findall(r"^(\w+):", (root / "crates.txt").read_text(encoding="utf-8"), re.M))
+        self.crates = set(re.findall(r"^(\w+)(?: staticlib)?:", (root / "crates.txt").read_text(encoding="utf-8"), re.M))
         self.names = set().union(*self.defined.values()) | self.crates | set(re.findall(r"\b(?:enfys|ENFYS)_\w+", header))
         self.edits = {f"{p.parts[-3]}/{p.stem}" for p in root.glob("crates/*/must-fail/*.edit")}
         self.labels = {edit.split("/")[1] for edit in self.edits}
@@ -247,7 +247,7 @@ def self_test(tree, documents):
             if column == "File":
                 planted.append(("PROMISES", f"{cell.strip()}, another file", place, place + len(cell), "crates/instants/specs/Lib.antt"))
             if column == "Statement" and not re.search(r"\w", re.sub(r"`[^`]*`", "", cell)):
-                planted.append(("PROMISES", f"{cell.strip()}, another name", place, place + len(cell), "`firstRefusal`"))
+                planted.append(("PROMISES", f"{cell.strip()}, another name", place, place + len(cell), "`first_refusal`"))
     missed = []
     for name, words, start, end, instead in planted:
         document = documents[name]

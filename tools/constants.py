@@ -58,7 +58,7 @@ def leap_seconds():
     """The rows of the definition and those of the rules: year, month, day, seconds."""
     table = (CRATES / "utc" / "specs" / "Table.antt").read_text(encoding="utf-8")
     rules = (ROOT / "docs" / "RULES.md").read_text(encoding="utf-8")
-    first = re.search(r"(\d+) from (\d{4})-(\d\d)-(\d\d) on \(`firstStep`\)", rules).groups()
+    first = re.search(r"(\d+) from (\d{4})-(\d\d)-(\d\d) on \(`first_step`\)", rules).groups()
     later = re.findall(r"\| (\d{4})-(\d\d)-(\d\d) \| (\d\d) (?=\|)", rules)
     stands = re.findall(r"\bstep (\d+) (\d+) (\d+) (\d+)", table)
     return ([tuple(map(int, row)) for row in rows] for rows in (stands, sorted([(*first[1:], first[0]), *later])))
@@ -68,16 +68,16 @@ def expected():
     yield "leap seconds", *leap_seconds()
     sine, arguments, nutation = read("sine"), read("arguments"), read("nutation")
     terms = [nearest(QUARTER ** (2 * k + 1) / math.factorial(2 * k + 1) * 2**31) for k in range(8)]
-    yield "sine, first constant", named(sine, "firstConstant"), terms[:1]
-    yield "sine, other constants", named(sine, "otherConstants"), terms[1:]
-    yield "centuries", named(arguments, "perCentury"), [nearest(Fraction(2**88, CENTURY))]
+    yield "sine, first constant", named(sine, "first_constant"), terms[:1]
+    yield "sine, other constants", named(sine, "other_constants"), terms[1:]
+    yield "centuries", named(arguments, "per_century"), [nearest(Fraction(2**88, CENTURY))]
     for i, polynomial in enumerate(polynomials()):
         shifted, sign = from_epoch(polynomial), "₁₂₃₄₅"[i]
         yield f"argument {i + 1}, up", named(arguments, "up" + sign), half([max(c, 0) for c in shifted])
         yield f"argument {i + 1}, down", named(arguments, "down" + sign), half([max(-c, 0) for c in shifted])
     start = Fraction(EPOCH * 36_525 * 100, 43_021) + 400
-    yield "nutation, start", named(nutation, "startAngle"), [nearest(start * 2**ANGLE)]
-    yield "nutation, rate", named(nutation, "angleRate"), [nearest(Fraction(100 * 2 ** (ANGLE + 64), 43_021 * DAY))]
+    yield "nutation, start", named(nutation, "start_angle"), [nearest(start * 2**ANGLE)]
+    yield "nutation, rate", named(nutation, "angle_rate"), [nearest(Fraction(100 * 2 ** (ANGLE + 64), 43_021 * DAY))]
 
 
 def main():

@@ -32,7 +32,7 @@ def read_crates():
     for line in (ROOT / "crates.txt").read_text(encoding="utf-8").splitlines():
         if line.strip() and not line.startswith("#"):
             name, _, on = line.partition(":")
-            stands[name.strip()] = on.split()
+            stands[name.split()[0]] = on.split()
     kit = sorted({on for all_on in stands.values() for on in all_on} - set(stands))
     return {name: [on for on in all_on if on in stands] for name, all_on in stands.items()}, kit
 
@@ -219,7 +219,8 @@ def svg(stands, kit):
         out.append(f'<rect x="{at}" y="{base - 11}" width="20" height="14" rx="3" fill="{fill}" stroke="{line}"/><text x="{at + 27}" y="{base}">{name}</text>')
         at += 27 + 13 * len(name) // 2 + 26
     out.append(f'<path d="M{at},{base - 4} h30" stroke="#5b7ea6" stroke-width="1.3" marker-end="url(#end0)"/><text x="{at + 38}" y="{base}">stands on</text>')
-    out.append(f'<text x="{MARGIN}" y="{base + 22}">Not shown: arrows that follow from others, and libraries of the kit ({", ".join(kit)}).</text>')
+    named = f", and libraries of the kit ({', '.join(kit)})" if kit else ""
+    out.append(f'<text x="{MARGIN}" y="{base + 22}">Not shown: arrows that follow from others{named}.</text>')
     out += ["</g>", "</svg>", ""]
     return "\n".join(out)
 

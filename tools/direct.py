@@ -1,8 +1,8 @@
 #!/usr/bin/env python3
 """No loop and no recursion on the way from a day number to its date.
 
-    tools/direct.py [ROOT] [--self-test]                reads crates/*/src
-    rt mir enfysgar | tools/direct.py - [--self-test]   reads what the compiler makes of them
+    tools/direct.py [ROOT] [--self-test]              reads crates/*/src
+    tools/direct.py --compiled [ROOT] [--self-test]   reads what the compiler made of the library crates (crates/*/out, after `make archive`)
 
 Starts from the functions that take a day to its date (STARTS) and follows every call. A loop, a function that reaches itself, and a call that leads to no function of ours
 are printed with the way to them, and the status is 1. In the source the functions to start from have to be those whose contract cites a definition of DEFINITIONS. The
@@ -10,14 +10,16 @@ source is read by the few forms of the language that we use; where it has anothe
 
 With --self-test loops, recursions and other changes are planted in a copy, one by one, and each has to be answered as it should be."""
 
+import json
 import re
 import sys
 import tempfile
 from pathlib import Path
 
-DEFINITIONS = {"dateOf", "dateAfter"}
+DEFINITIONS = {"date_of", "date_after"}
 EXPORTED = ["enfys_date_of_day", "enfys_day_to_year", "enfys_day_to_month", "enfys_day_to_day_of_month", "enfys_day_refusal"]
-STARTS = {"calendar::date_after", "calendar::date_of"} | {f"enfysgar::calendar_calls::{name}" for name in EXPORTED}
+LIBRARY_STARTS = {"calendar::date_after", "calendar::date_of"}
+STARTS = LIBRARY_STARTS | {f"enfysgar::calendar_calls::{name}" for name in EXPORTED}
 
 LOOPS = {"while", "loop", "for"}
 NO_CALLS = LOOPS | {"if", "else", "match", "return", "break", "let", "in", "as", "mut", "ref"}  # words that may stand before a parenthesis
@@ -87,7 +89,7 @@ class Program:
         self.functions, self.methods, self.of_types = {}, {}, []
         self.values = set()  # what is written like a call and makes a struct or an enum
         self.meaning = {}  # by module or type: name -> path, or for an import the list of names that it is written as
-        self.crates = re.findall(r"^(\w+):", (root / "crates.txt").read_text(encoding="utf-8"), re.M)
+        self.crates = re.findall(r"^(\w+)(?: staticlib)?:", (root / "crates.txt").read_text(encoding="utf-8"), re.M)
         for crate in self.crates:
             for name in ("lib.rt", "main.rt"):
                 if (root / "crates" / crate / "src" / name).exists():
@@ -111,7 +113,9 @@ class Program:
         words = file.words
         while place < end:
             word, after = words[place], words[place + 1]
-            if word == "#" or (word == "pub" and after == "("):
+            if word == "#" and after == "!":
+                place = file.other[place + 2]
+            elif word == "#" or (word == "pub" and after == "("):
                 place = file.other[place + 1]
             elif word in ("ghost", "type") or (word == "const" and after != "fn"):
                 place = file.to(place, [";"])
@@ -246,12 +250,14 @@ class Program:
         return {"::".join(key) for key, function in self.functions.items() if DEFINITIONS & function.contract}
 
 
-def compiled(text):
-    """For each function of a program as `rt mir` prints it, its loops and its calls."""
-    for part in text.split('(fn-def "')[1:]:
-        calls = re.findall(r'\(call \(direct \(fnRef "([^"]+)"', part)
-        others = [("compiled", "call", None)] * (part.count("(call ") - len(calls))
-        yield part[: part.index('"')], ([("compiled", "loop")] * part.count("(loop "), [("compiled", name, [name]) for name in calls] + others)
+def compiled(programs):
+    """For each function of what the compiler made, its loops and its calls."""
+    for name, made in (pair for program in programs for pair in program):
+        words = made["body"]
+        calls = [word["Call"][0] for word in words if isinstance(word, dict) and "Call" in word]
+        named = [head["Fn"][0] if isinstance(head, dict) and "Fn" in head else None for head in calls]
+        loops = [("compiled", "loop") for word in words if word == "Loop"]
+        yield name, (loops, [("compiled", callee or "call", callee and [callee]) for callee in named])
 
 
 def walk(functions, starts):
@@ -290,10 +296,10 @@ def check_source(root):
     return reached, wrong + more
 
 
-def check_compiled(text):
-    functions = dict(compiled(text))
-    reached, wrong = walk(functions, STARTS & set(functions))
-    return reached, wrong + [f"{name}: no such function" for name in sorted(STARTS - set(functions))]
+def check_compiled(programs):
+    functions = dict(compiled(programs))
+    reached, wrong = walk(functions, LIBRARY_STARTS & set(functions))
+    return reached, wrong + [f"{name}: no such function" for name in sorted(LIBRARY_STARTS - set(functions))]
 
 
 COUNTED = "pub fn counted(n: u64) -> u64 { let mut k = n; while 365 < k { k = k - 365; } k }"
@@ -345,7 +351,7 @@ def plants(program, reached):
     yield "a comment in a comment", "a comment in a comment", [first("calendar::year_day", '/* /* */ b" */ while true {} let b = b"x";')]
     yield "a recursion of two functions", "a recursion: calendar::date_after > calendar::twelfths", [first("calendar::twelfths", "crate::date_after(e);")]
     yield "a recursion of two crates", "a recursion: calendar::date_of > instants::day_index", [first("instants::day_index", "calendar::date_of(day);")]
-    unlisted = "fn year_of(day: i64) -> u64 ensures { λ r. ⌜ r ≡ yearOf (dateOf day) ⌝ } { 0 }"
+    unlisted = "fn year_of(day: i64) -> u64 ensures { result ≡ year_of (date_of day) } { 0 }"
     yield "a function that is not listed", "calendar::year_of: its contract", [last("calendar", unlisted)]
     yield "a constant one", "calendar::year_of: its contract", [last("calendar", f"pub const {unlisted}")]
     yield "a loop that no date needs", "", [first("calendar::years", "while true {}"), last("instants", COUNTED)]
@@ -370,29 +376,41 @@ def planted_in_source(root, reached):
                 (Path(folder) / source.relative_to(root)).write_bytes(source.read_bytes())
 
 
-def planted_in_compiled(text, reached):
+def planted_in_compiled(programs, reached):
+    def changed(name, words, other=None):
+        """The programs with words before a function's body, or with another name of it."""
+        return [[[other or at, {**made, "body": words + made["body"]}] if at == name else [at, made] for at, made in program] for program in programs]
+
     for name in reached:
-        head = f'(fn-def "{name}" '
-        for said, words in (("a loop", "(loop "), ("a recursion", f'(call (direct (fnRef "{name}")'), ("is no function of ours", "(call (")):
-            yield f"{words} in {name}", any(said in wrong for wrong in check_compiled(text.replace(head, head + words))[1])
-        if name in STARTS:
-            yield f"no {name}", f"{name}: no such function" in check_compiled(text.replace(head, '(fn-def "other" '))[1]
+        for said, words in (
+            ("a loop", ["Seq", "Block", "Loop"]),
+            ("a recursion", ["Seq", {"Call": [{"Fn": [name, {}]}, [], {}]}]),
+            ("is no function of ours", ["Seq", {"Call": [{"Fn": ["core::other", {}]}, [], {}]}]),
+            ("is no function of ours", ["Seq", {"Call": [{"Opd": {}}, [], {}]}]),
+        ):
+            yield f"{words} in {name}", any(said in wrong for wrong in check_compiled(changed(name, words))[1])
+        if name in LIBRARY_STARTS:
+            yield f"no {name}", f"{name}: no such function" in check_compiled(changed(name, [], "other"))[1]
 
 
 def main():
-    arguments = [a for a in sys.argv[1:] if a != "--self-test"]
-    if arguments == ["-"]:
-        given, check, planted = sys.stdin.read(), check_compiled, planted_in_compiled
+    arguments = [a for a in sys.argv[1:] if not a.startswith("--")]
+    root = Path(arguments[0]) if arguments else Path(__file__).resolve().parent.parent
+    of_compiled = "--compiled" in sys.argv
+    if of_compiled:
+        found = sorted(root.glob("crates/*/out/rlib/*.rlib/toolchain/mir.json"))
+        given, check, planted = [json.loads(path.read_text(encoding="utf-8")) for path in found], check_compiled, planted_in_compiled
     else:
-        given, check, planted = Path(arguments[0]) if arguments else Path(__file__).resolve().parent.parent, check_source, planted_in_source
+        given, check, planted = root, check_source, planted_in_source
     reached, wrong = check(given)
     answers = dict(planted(given, reached)) if "--self-test" in sys.argv and not wrong else {}
     wrong += [f"planted, and not answered right: {what}" for what, right in answers.items() if not right]
     for words in wrong:
         print(f"direct: {words}")
     if not wrong:
-        of = "compiled, " if arguments == ["-"] else ""
-        print(f"direct: {of}{len(STARTS)} functions from a day to its date and the {len(reached) - len(STARTS)} that they reach, no loop and no recursion")
+        starts = LIBRARY_STARTS if of_compiled else STARTS
+        of = "compiled, " if of_compiled else ""
+        print(f"direct: {of}{len(starts)} functions from a day to its date and the {len(reached) - len(starts)} that they reach, no loop and no recursion")
     if answers and not wrong:
         print(f"direct: {len(answers)} planted changes, each answered right")
     sys.exit(1 if wrong else 0)

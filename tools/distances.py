@@ -29,7 +29,7 @@ FORMS = [
     (r"(\d+) ns, (\d+) ps(?:,| and) (\d+) (?:units of (?:the|these) |\* 10\^-20 rad/s)", TRIPLE),
     (r"(\d+) nanoseconds, (\d+) picoseconds and (\d+) \* 10\^-20 radian per second", TRIPLE),
     (rf"within {THREE} of the exact sums", TRIPLE),
-    (rf"`in-figures`: they are {THREE}", TRIPLE),
+    (rf"`in_figures`: they are {THREE}", TRIPLE),
     (r"distances (\d+) (\d+) (\d+)\) ×", TRIPLE),
     (r"in nanoseconds, within (\d+)\b", TRIPLE[:1]),
     (r"in picoseconds, within (\d+)\b", TRIPLE[1:2]),
@@ -104,22 +104,22 @@ class Chain:
 
     def __init__(self, text):
         ours, arguments = text[SINE + "specs/Ours.antt"], text[ARGUMENTS + "specs/Ours.antt"]
-        self.sine = number(text[SINE + "specs/Within.antt"], "sineDistance")
-        self.angle = number(text[ARGUMENTS + "proofs/Distance.antt"], "rowAngleDistance")
+        self.sine = number(text[SINE + "specs/Within.antt"], "sine_distance")
+        self.angle = number(text[ARGUMENTS + "proofs/Distance.antt"], "row_angle_distance")
         self.offset = number(text[NUTATION + "specs/Claims.antt"], "distance")
         promised = one(r"^promised = distances (\d+) (\d+) (\d+)$", text[ZONAL + "specs/Within.antt"]).groups()
         self.promised = dict(zip(TRIPLE, map(int, promised)))
         self.multipliers = table(text[ARGUMENTS + "specs/Table.antt"], "multipliers")
         self.coefficients = table(text[ZONAL + "specs/Coefficients.antt"], "coefficients")
         self.slope = number(text[SINE + "proofs/Angles.antt"], "slope")
-        self.part = 2**39 // number(ours, "quarterParts")
-        others = one(r"^otherConstants = (.*) ∷ \[\]$", ours).group(1)
-        self.constants = [number(ours, "firstConstant")] + [int(n) for n in others.split(" ∷ ")]
-        turn = number(text[SINE + "specs/Exact.antt"], "turnNum")
+        self.part = 2**39 // number(ours, "quarter_parts")
+        others = one(r"^other_constants = (.*) ∷ \[\]$", ours).group(1)
+        self.constants = [number(ours, "first_constant")] + [int(n) for n in others.split(" ∷ ")]
+        turn = number(text[SINE + "specs/Exact.antt"], "turn_num")
         self.routine = self.of_routine([Fraction(turn, 4 * 10**24) ** (2 * k + 1) / math.factorial(2 * k + 1) for k in range(12)])
         self.cut = Fraction(self.slope * (self.part - 1), 2**10)
         self.halves = [[self.half(arguments, way + "₁₂₃₄₅"[i]) for way in ("up", "down")] for i in range(5)]
-        self.per_century = number(arguments, "perCentury")
+        self.per_century = number(arguments, "per_century")
         exact = text[ARGUMENTS + "specs/Exact.antt"]
         self.arguments = [self.of_argument(signed(one(rf"^F{i + 1} = polynomial (.*)$", exact).group(1)), *self.halves[i]) for i in range(5)]
 
@@ -190,13 +190,13 @@ def above(x):
 def decisions(chain):
     """The lines of docs/DECISIONS.md."""
     routine, cut, half = chain.routine, chain.cut, Fraction(1, 2)
-    yield "| the routine, at an angle cut to parts: eight constants, eight products, the square, the terms that it leaves out | `routineError` | " + f"{figure(routine)}, so {above(routine)} |"
-    yield f"| the cut of an angle to 2^30 parts of a quarter turn: at most {chain.part - 1} units of 2^-41 turn, times {chain.slope} | `cutError` | {figure(cut)}, so {above(cut)} |"
-    yield f"| our sine or cosine at any angle | `sineDistance` | {chain.sine} |"
+    yield "| the routine, at an angle cut to parts: eight constants, eight products, the square, the terms that it leaves out | `routine_error` | " + f"{figure(routine)}, so {above(routine)} |"
+    yield f"| the cut of an angle to 2^30 parts of a quarter turn: at most {chain.part - 1} units of 2^-41 turn, times {chain.slope} | `cut_error` | {figure(cut)}, so {above(cut)} |"
+    yield f"| our sine or cosine at any angle | `sine_distance` | {chain.sine} |"
     each = ", ".join(map(str, chain.arguments))
-    yield (f"| a row's angle: {each} units of 2^-41 turn for l, l', F, D, Omega, and {chain.row_angle()} for the worst row | `rowAngleDistance` "
+    yield (f"| a row's angle: {each} units of 2^-41 turn for l, l', F, D, Omega, and {chain.row_angle()} for the worst row | `row_angle_distance` "
            f"| {chain.angle} / 64 = {figure(Fraction(chain.angle, 64))} |")
-    yield f"| a row's sine or cosine | `rowDistance` | {64 * chain.sine + chain.angle:,} / 64 = {figure(chain.sine + Fraction(chain.angle, 64))} |"
+    yield f"| a row's sine or cosine | `row_distance` | {64 * chain.sine + chain.angle:,} / 64 = {figure(chain.sine + Fraction(chain.angle, 64))} |"
     for (of, (factor, column)), promised in zip(FACTORS.items(), chain.promised.values()):
         together = chain.together(of)
         most = math.floor((promised - half) / chain.unit(of) - Fraction(chain.angle, 64))
@@ -213,11 +213,11 @@ def wrong_programs(chain, text):
     for edit in EDITS:
         other = Chain(edited(text, *edit.split("/")))
         if edit.startswith("sine/"):
-            name, test, found, allowed, weight = "sineDistance", "sine-room", above(other.routine) + above(other.cut), chain.sine, chain.weight(0)
+            name, test, found, allowed, weight = "sine_distance", "sine_room", above(other.routine) + above(other.cut), chain.sine, chain.weight(0)
             units = other.constants[0] - chain.constants[0]
             angle = other.part - 1 if other.part != chain.part else 0
         else:
-            name, test, found, allowed, units = "rowAngleDistance", "rows-good", other.row_angle(), chain.angle, 0
+            name, test, found, allowed, units = "row_angle_distance", "rows_good", other.row_angle(), chain.angle, 0
             weight = sum((abs(c[0]) + abs(c[1])) * abs(k[4]) for c, k in zip(chain.coefficients, chain.multipliers))  # of the rows with Omega
             last = (88_433 + 94_553 + 36_527 + 1) * 86_400_000_000 + 43_200_000_000 - 1  # the moment of the last accepted instant
             angle = abs(other.halves[4][1][1] - chain.halves[4][1][1]) * last / 2**64
@@ -356,10 +356,10 @@ def self_test(text):
                 plant(name, text[name].replace(line, wrong))
                 plant(name, text[name].replace(line, line + "\n" + wrong) if found.start() > line.index(" | ") else text[name].replace(line, ""))
     for name, old, new in [
-        (SINE + "specs/Within.antt", "sineDistance = 20", "sineDistance = 21"),
+        (SINE + "specs/Within.antt", "sine_distance = 20", "sine_distance = 21"),
         (SINE + "specs/Ours.antt", "∷ 7728 ∷", "∷ 7729 ∷"),
         (SINE + "proofs/Angles.antt", "slope = 16", "slope = 17"),
-        (ARGUMENTS + "proofs/Distance.antt", "rowAngleDistance = 282", "rowAngleDistance = 281"),
+        (ARGUMENTS + "proofs/Distance.antt", "row_angle_distance = 282", "row_angle_distance = 281"),
         (ARGUMENTS + "specs/Ours.antt", "up₁ = half 0 17038933253433341313 ", "up₁ = half 0 17038933253433351313 "),
         (ARGUMENTS + "specs/Table.antt", "(+ 0 ∷ + 0 ∷ + 0 ∷ + 0 ∷ + 1 ∷ [])", "(+ 9 ∷ + 0 ∷ + 0 ∷ + 0 ∷ + 1 ∷ [])"),
         (ZONAL + "specs/Coefficients.antt", "− 16172681", "− 16182681"),
