@@ -2,6 +2,7 @@
 // Their distance from the exact angles is proved in proofs/Distance.antt.
 // Derived from the IERS routines TDFRPH (the arguments) and RG_ZONT2 (the rows); not IERS Conventions software (NOTICE, docs/DIFFERENCES.md).
 #![tactic(auto)]
+
 ghost use Rattle.std.specs.Prelude.{◌≡◌, ℕ, ◌+◌, ◌*◌, ◌-◌, ◌/◌, ◌%◌, ◌^◌, ◌≤◌, ◌<◌, get_or, []};
 ghost use Rattle.arguments.specs.Table.{multipliers};
 ghost use Rattle.arguments.specs.Ours as ours;

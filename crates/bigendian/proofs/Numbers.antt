@@ -34,8 +34,8 @@ number_bytes p zero n t = omega arith
 number_bytes p (suc k) n t =
     let b : List ℕ = bytes_of k (n / 256) in
     let x : ℕ = n % 256 in
-    rw append_assoc
-    (ap₂ (λ (v y : ℕ). v * 256 + y) (number_bytes p k (n / 256) (x ∷ t)) (get_or-append-add p (b ++ x ∷ t) k 0 ∙ get_or_at b x t 0 k (length_bytes k (n / 256)))
+    ap (λ (l : List ℕ). number_at (p ++ l) (length p) (suc k)) (append_assoc b (x ∷ []) t)
+    ∙ (ap₂ (λ (v y : ℕ). v * 256 + y) (number_bytes p k (n / 256) (x ∷ t)) (get_or-append-add p (b ++ x ∷ t) k 0 ∙ get_or_at b x t 0 k (length_bytes k (n / 256)))
     ∙ (sym (mod-mul n (one-le-pow k 256 (omega arith)) (omega arith)) ∙ ap (λ (m : ℕ). n % m) (sym (pow-suc 256 k))))
 
 -- a number depends on its own bytes

@@ -1,5 +1,6 @@
 // Dates and day numbers (MJD), and times of day.
 #![tactic(auto)]
+
 ghost use Rattle.std.specs.Prelude.{◌≡◌, ◌+◌, ◌≤◌, ◌<◌};
 ghost use Rattle.instants.specs.Inner.{index_limit};
 ghost use Rattle.calendar.specs.Dates.{month_length, year_length, days_of_years, days_before, date_after, day_of, date_of};

@@ -1,5 +1,6 @@
 // An instant split into a day word and a time word, and the two joined again.
 #![tactic(auto)]
+
 ghost use Rattle.std.specs.Prelude.{◌≡◌};
 ghost use Rattle.clock.specs.Words.{split_of, join_of};
 

@@ -1,5 +1,6 @@
 // What differs between two record files: a walk over both in the order of their instants, once to test and to count, once to write.
 #![tactic(auto)]
+
 ghost use Rattle.std.specs.Prelude.{◌≡◌, true, false, ◌≤◌, ◌-ℤ◌, length, drop};
 ghost use Rattle.std.specs.Int.{w32};
 ghost use Rattle.std.proofs.Common.{SFits};
@@ -56,7 +57,7 @@ pub enum CompareAnswer {
 }
 
 // Where a walk stands: a place in each file, and the moments of the records there.
-#[derive(Drop)]
+#[derive(Clone, Copy)]
 struct Place {
     first: usize,
     second: usize,

@@ -1,5 +1,6 @@
 // The calls that the daemon makes, and nothing else. Each answers any values. On a refusal the call of one number gives 0, and the others write nothing.
 #![tactic(auto)]
+
 mod calendar_calls;
 mod clock_calls;
 mod compare_calls;

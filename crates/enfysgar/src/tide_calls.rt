@@ -48,6 +48,7 @@ pub extern "C" fn enfys_tide(
 
 // The frequency, in cycles per day.
 #[unsafe(no_mangle)]
+#[tactic(auto, unfolding(crate::proofs::Literals::of_bits))]
 pub extern "C" fn enfys_tide_frequency(
     year: u64,
     month: u64,
@@ -81,6 +82,7 @@ pub extern "C" fn enfys_tide_frequency(
 
 // The phase, in degrees.
 #[unsafe(no_mangle)]
+#[tactic(auto, unfolding(crate::proofs::Literals::of_bits))]
 pub extern "C" fn enfys_tide_phase(
     year: u64,
     month: u64,

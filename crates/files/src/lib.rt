@@ -1,5 +1,6 @@
 // Record files: whole records, one behind the other, whose instants rise.
 #![tactic(auto)]
+
 ghost use Rattle.std.specs.Prelude.{◌≡◌, true, ◌≤◌, length};
 ghost use Rattle.record.specs.Records.{read_of, is_record};
 ghost use Rattle.files.specs.Files.{wrong_length, file_of, file_refusal_of};

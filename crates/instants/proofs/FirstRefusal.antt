@@ -82,6 +82,8 @@ first_none (c ∷ cs) h e = by c.applies refl (ltb 0 c.number) refl h e (first_n
         → (T (numbered cs) → first_refusal cs ≡ 0 → NoneApplies cs) → (c.applies ≡ false) × NoneApplies cs
     by true p true q h e f = let v : ⊥ = omega (arith, ltb-true 0 c.number q) in absurd v
     by false p true q h e f = (p, f h e)
+    by false p false q h e f = elim h [ ]
+    by true p false q h e f = elim h [ ]
 
 -- lists that agree where no case before them applies agree behind those cases
 pub first_behind : (cs ds es : List Case) → (NoneApplies cs → first_refusal ds ≡ first_refusal es) → first_refusal (cs ++ ds) ≡ first_refusal (cs ++ es)
@@ -107,3 +109,5 @@ first_below b (c ∷ cs) h k = by c.applies (ltb c.number b) refl k (first_below
         → cond applies c.number (first_refusal cs) < b
     by true true p k f = ltb-true c.number b p
     by false true p k f = f k
+    by false false p k f = elim k [ ]
+    by true false p k f = elim k [ ]

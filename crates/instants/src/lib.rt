@@ -27,7 +27,7 @@ const ORIGIN_DAYS: u64 = 36527;
 const HALF_DAY: u64 = 43200000000;
 
 // An instant: a day number (Modified Julian Date) and the microseconds of that day.
-#[derive(Drop)]
+#[derive(Clone, Copy)]
 pub struct Instant {
     pub day: i64,
     pub micros: u64,

@@ -60,7 +60,7 @@ factor_le n w h = N.div-le_of_le-mul w (le_trans (N.mul-le-mul_right (2 ^ 27) (N
 pub between_small : (W off k : ℕ) (c d : ℤ) → off ≤ W → nat_abs c ≤ k → nat_abs d ≤ k → nat_abs (c *ℤ pos W +ℤ (d -ℤ c) *ℤ pos off) ≤ k * W
 between_small W off k c d h hc hd =
     le_trans (abs_sum (c *ℤ pos (W - off)) (d *ℤ pos off) (on_the_way c d W off h)
-    (abs_prod c (pos (W - off)) hc (N.le_refl (W - off))) (abs_prod d (pos off) hd (N.le_refl off))) (le_of_eq (sym (N.mul_add k (W - off) off) ∙ ap (λ (n : ℕ). k * n) (N.sub-add_cancel h)))
+    (abs_prod c (pos (W - off)) hc (N.le_refl (W - off))) (abs_prod d (pos off) hd (N.le_refl off))) (le_of_eq (sym (N.mul-add k (W - off) off) ∙ ap (λ (n : ℕ). k * n) (N.sub-add_cancel h)))
 
 pub minus_small : (c d : ℤ) → nat_abs c ≤ largest → nat_abs d ≤ largest → nat_abs (d -ℤ c) ≤ 2 * largest
 minus_small c d hc hd = le_trans (abs_sum d (neg_ℤ c) refl hd (le_trans (le_of_eq (abs_neg c)) hc)) (lit≤ tt)

@@ -1,6 +1,6 @@
 -- The refusals of UTC readings, of phases, and of instants out of the list's reach, in the figures of specs/AnyInput.antt: where the cases before them do not apply,
 -- dates in their order have rising indices, and days with their microseconds rising moments. Assumes nothing.
-use Prim.Native.Nat.{ℕ, ◌+◌, ◌-◌, ◌≤◌}
+use Prim.Native.Nat.{ℕ, ◌≤◌}
 use mathlib.Core.Path.{◌≡◌, refl, ◌∙◌, ap}
 use mathlib.Core.Bool.{not}
 use mathlib.Core.List.{List, [], ◌∷◌, ◌++◌}

@@ -1,5 +1,6 @@
 // Records of thirty bytes: one written, one read.
 #![tactic(auto)]
+
 ghost use Rattle.std.specs.Prelude.{◌≡◌, ◌≤◌, true, [], ◌∷◌, ◌++◌, length, pos, FitsSigned};
 ghost use Rattle.std.specs.Int.{w32};
 ghost use Rattle.bigendian.specs.Numbers.{twos_complement};
@@ -43,7 +44,7 @@ const CHECK_FIELD: Field = Field { at: 28, size: 2 };
 
 // A record's instant (day number and microseconds of the day) and its three numbers: UT1 in nanoseconds, length of day in picoseconds, rate in
 // 10^-20 rad/s.
-#[derive(Drop)]
+#[derive(Clone, Copy)]
 pub struct Record {
     pub day: i64,
     pub micros: u64,

@@ -15,7 +15,7 @@ use Rattle.record.specs.Format.{record_bytes}
 use Rattle.record.specs.Records.{read_of}
 use Rattle.record.specs.Inner.{form_refusal}
 use Rattle.rows.specs.BuiltIn.{built_in}
-use Rattle.rows.specs.Places.{started, place, span}
+use Rattle.rows.specs.Places.{started, place, span, interpolated}
 use Rattle.nutation.specs.Exact.{u_value, u_parts, uncertainty_at}
 use Rattle.nutation.specs.Ours.{offsets_at, nutation_of}
 use Rattle.reference.specs.Rows.{Says, EveryRow, rows}
@@ -31,5 +31,5 @@ there_and_back {r} {t} e = (e, reading_there_and_back r t e)
 
 -- PROMISE. Every row of the list of reference values holds.
 pub every_row : EveryRow rows
-unfolding EveryRow Says rows outside day_index acceptance leap_year month_lengths month_length sum year_length days_of_years days_before date_index day_at_index day_of split_of join_of word_sum record_bytes form_refusal read_of built_in started place span u_value u_parts uncertainty_at offsets_at nutation_of tt_of tai_minus_utc begun first_step later_steps has_second60 is_eve
+unfolding EveryRow Says rows outside day_index acceptance leap_year month_lengths month_length sum year_length days_of_years days_before date_index day_at_index day_of split_of join_of word_sum record_bytes form_refusal read_of built_in started place span interpolated u_value u_parts uncertainty_at offsets_at nutation_of tt_of tai_minus_utc begun first_step later_steps has_second60 is_eve
 every_row = refl ▹ refl ▹ refl ▹ refl ▹ refl ▹ refl ▹ refl ▹ refl ▹ refl ▹ refl ▹ refl ▹ (refl, refl) ▹ refl ▹ refl ▹ refl ▹ refl ▹ there_and_back refl ▹ there_and_back refl ▹ refl ▹ refl ▹ refl ▹ refl ▹ refl ▹ tt

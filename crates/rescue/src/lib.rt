@@ -1,5 +1,6 @@
 // Records rescued from damaged bytes: a walk keeps what reads as a record and passes every other byte.
 #![tactic(auto)]
+
 ghost use Rattle.std.specs.Prelude.{◌≡◌, cond, ◌*◌, ◌≤◌, length};
 ghost use Rattle.bigendian.specs.Buffers.{at_front};
 ghost use Rattle.rescue.specs.Rescue.{most_bytes, entry_length, counts_of, kept_bytes, list_bytes, ranges_in, rescue_of, records_after, list_after, rescue_refusal_of};

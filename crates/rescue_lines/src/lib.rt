@@ -1,5 +1,6 @@
 // What the program rescue_records writes: the kept records, and a report of what was passed.
 #![tactic(auto)]
+
 ghost use Rattle.std.specs.Prelude.{◌≡◌, ◌++◌, ◌+◌, ◌*◌, ◌≤◌, length};
 ghost use Rattle.bigendian.specs.Buffers.{at_front};
 ghost use Rattle.rescue.specs.Walk.{range};

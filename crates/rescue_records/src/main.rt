@@ -1,39 +1,58 @@
 // The program rescue_records: it reads standard input, calls `rescue_lines::answer`, and writes the kept records to standard output and the report to standard error. Its stored
 // input is a few records, some of them damaged.
 #![tactic(auto)]
-use libc::{STDERR_FILENO, STDIN_FILENO, STDOUT_FILENO};
+
+ghost use Rattle.std.specs.Prelude.{◌≤◌, length};
+
+use std::io::{Read, Stdin};
+
+// Reads standard input until s is full, the input ends or a read fails. Returns how many bytes it put at the front of s.
+fn read_full(mut input: Stdin, s: &mut [u8]) -> usize
+    ensures { result ≤ length s.new }
+{
+    let mut n = 0;
+    while n < s.len() {
+        let Ok(got) = input.read(&mut s[n..]) else {
+            return n;
+        };
+        if got == 0 {
+            return n;
+        }
+        n += got;
+    }
+    n
+}
 
 // Of so many bytes read and the most that are: says that the input was not read to its end, where there are fewer and one more read does not give the end.
 // Then a read failed, as it does on a bad disk.
-fn say_unread(size: usize, most: usize) {
+fn say_unread(rt: HostRuntime, size: usize, most: usize) {
     if size < most {
         let mut one = [0u8; 1];
-        if libc::read(STDIN_FILENO, &mut one) != 0 {
-            io::write_all(
-                STDERR_FILENO,
-                b"rescue_records: the input was not read to its end\n",
-            );
-        }
+        let Ok(0) = rt.stdin().read(&mut one) else {
+            let _ = rt
+                .stderr()
+                .write_all(b"rescue_records: the input was not read to its end\n");
+            return;
+        };
     }
 }
 
 // One byte more than is accepted decides. The records are written first, and the report whether or not they could be; where one of the two could not, one
 // line to standard error says so.
-fn main() {
+fn main(rt: HostRuntime) {
     let mut input = [0u8; 65537];
-    let n = io::read_full(STDIN_FILENO, &mut input);
-    say_unread(n, 65537);
+    let n = read_full(rt.stdin(), &mut input);
+    say_unread(rt, n, 65537);
     let mut records = [0u8; rescue_lines::RECORDS];
     let mut report = [0u8; rescue_lines::REPORT];
     let sizes = rescue_lines::answer(&input[..n], &mut records, &mut report);
     let kept = sizes.records;
     let said = sizes.report;
-    let output = io::write_all(STDOUT_FILENO, &records[..kept]);
-    let error = io::write_all(STDERR_FILENO, &report[..said]);
+    let output = rt.write_all(&records[..kept]).is_ok();
+    let error = rt.stderr().write_all(&report[..said]).is_ok();
     if !output | !error {
-        io::write_all(
-            STDERR_FILENO,
-            b"rescue_records: the answer could not be written\n",
-        );
+        let _ = rt
+            .stderr()
+            .write_all(b"rescue_records: the answer could not be written\n");
     }
 }

@@ -1,5 +1,6 @@
 // A table of rows as bytes: its refusals, and its rows, each read where it stands.
 #![tactic(auto)]
+
 ghost use Rattle.std.specs.Prelude.{◌≡◌, cond, ◌||◌, ◌^◌, ◌<◌, ◌≤◌, length};
 ghost use Rattle.bigendian.specs.Numbers.{signed_of};
 ghost use Rattle.rows.specs.Table.{row_at, day_out, not_after, days_wrong, numbers_wrong};

@@ -1,6 +1,7 @@
 // Where a moment is among the rows in bytes, how many of them are probed to find out, and the built-in rows as bytes.
 // Derived from the IERS routine FCNNUT; not IERS Conventions software (NOTICE, docs/DIFFERENCES.md).
 #![tactic(auto)]
+
 ghost use Rattle.std.specs.Prelude.{◌≡◌, ◌<◌, length};
 ghost use Rattle.rows.specs.BuiltIn.{built_in};
 ghost use Rattle.rows.specs.Places.{place};

@@ -1,6 +1,7 @@
 // Rows of amplitudes of the free core nutation: a row, its date and its limits, and a moment's place among rows.
 // Derived from the IERS routine FCNNUT; not IERS Conventions software (NOTICE, docs/DIFFERENCES.md).
 #![tactic(auto)]
+
 ghost use Rattle.std.specs.Prelude.{◌≡◌, ltb, nat_abs};
 ghost use Rattle.rows.specs.Table.{largest, day_out, number_out};
 ghost use Rattle.rows.specs.Places.{row_moment};
@@ -9,7 +10,7 @@ ghost use Rattle.rows.specs.Inner.{AcceptedRow};
 use instants::INDEX_OFFSET;
 
 // A row of a table: the day number of its date, the amplitudes and the uncertainty in hundredths of a microarcsecond.
-#[derive(Drop)]
+#[derive(Clone, Copy)]
 pub struct Row {
     pub day: u64,
     pub xc: i64,
@@ -18,7 +19,7 @@ pub struct Row {
 }
 
 // Where a moment is in a table: at or outside an end, with the end's row, or between two rows.
-#[derive(Drop)]
+#[derive(Clone, Copy)]
 pub enum Place {
     End(Row),
     Between(Row, Row),

@@ -1,5 +1,6 @@
 // A run of records at equal steps from a start, each with the corrections of its own instant.
 #![tactic(auto)]
+
 ghost use Rattle.std.specs.Prelude.{◌≡◌, length};
 ghost use Rattle.bigendian.specs.Buffers.{at_front};
 ghost use Rattle.instants.specs.Inner.{acceptance_refusal_of, LaterBounds};

@@ -1,19 +1,29 @@
 // Limits on each side: the count of a run and the seconds of a time of day; and lines of each kind: answered, refused, bad.
 #![tactic(auto)]
+
 use calendar::InstantAnswer;
-use libc::STDOUT_FILENO;
+
+// Writes bytes to standard output.
+fn say(rt: HostRuntime, text: &[u8]) {
+    let _ = rt.write_all(text);
+}
+
+// Writes a number in decimal digits.
+fn say_number(rt: HostRuntime, number: u64) {
+    let _ = rt.print(number);
+}
 
 // Ends a line.
-fn end() {
-    io::write_all(STDOUT_FILENO, b"\n");
+fn end(rt: HostRuntime) {
+    say(rt, b"\n");
 }
 
 // A text, and a refusal number or 0.
-fn show(text: &[u8], number: u32) {
-    io::write_all(STDOUT_FILENO, text);
-    io::write_all(STDOUT_FILENO, b": ");
-    io::print_decimal(STDOUT_FILENO, number as u64);
-    end();
+fn show(rt: HostRuntime, text: &[u8], number: u32) {
+    say(rt, text);
+    say(rt, b": ");
+    say_number(rt, number as u64);
+    end(rt);
 }
 
 // A run of quarter hours, into room for ninety-seven records.
@@ -31,109 +41,116 @@ fn time_refusal(second: u64, microsecond: u64) -> u32 {
 }
 
 // An input, and behind it what the program writes for it: its words, or of a run the number of its bytes. A run is longer than any words.
-fn answer(input: &[u8]) {
+fn answer(rt: HostRuntime, input: &[u8]) {
     let mut buffer = [0u8; 2880];
-    io::write_all(STDOUT_FILENO, input);
-    io::write_all(STDOUT_FILENO, b"  ");
+    say(rt, input);
+    say(rt, b"  ");
     let size = run_line::answer(input, &mut buffer);
     if size < 12 {
-        io::write_all(STDOUT_FILENO, &buffer[..size]);
+        say(rt, &buffer[..size]);
         return;
     }
-    io::print_decimal(STDOUT_FILENO, size as u64);
-    io::write_all(STDOUT_FILENO, b" bytes");
-    end();
+    say_number(rt, size as u64);
+    say(rt, b" bytes");
+    end(rt);
 }
 
 // Lines that are answered by a run.
-fn runs() {
+fn runs(rt: HostRuntime) {
     // a day of quarter hours
-    answer(b"2007 12 31 96 900\n");
+    answer(rt, b"2007 12 31 96 900\n");
     // ten digits each
-    answer(b"0000002007 0000000012 0000000031 0000000096 0000000900\n");
+    answer(
+        rt,
+        b"0000002007 0000000012 0000000031 0000000096 0000000900\n",
+    );
     // one record on the last day
-    answer(b"2100 12 31 1 86400\n");
+    answer(rt, b"2100 12 31 1 86400\n");
     // more behind the newline
-    answer(b"2000 2 29 2 1\nx");
+    answer(rt, b"2000 2 29 2 1\nx");
 }
 
 // Lines whose date is refused.
-fn dates() {
+fn dates(rt: HostRuntime) {
     // year 1899
-    answer(b"1899 12 31 1 1\n");
+    answer(rt, b"1899 12 31 1 1\n");
     // year 2101
-    answer(b"2101 1 1 97 0\n");
+    answer(rt, b"2101 1 1 97 0\n");
     // month 0
-    answer(b"2000 0 1 1 1\n");
+    answer(rt, b"2000 0 1 1 1\n");
     // month 13
-    answer(b"2000 13 32 1 1\n");
+    answer(rt, b"2000 13 32 1 1\n");
     // day 0
-    answer(b"2000 2 0 1 1\n");
+    answer(rt, b"2000 2 0 1 1\n");
     // 1900-02-29
-    answer(b"1900 2 29 1 1\n");
+    answer(rt, b"1900 2 29 1 1\n");
     // 2100-02-29
-    answer(b"2100 2 29 0 1\n");
+    answer(rt, b"2100 2 29 0 1\n");
 }
 
 // Lines whose count, step or last instant is refused.
-fn counts_and_steps() {
+fn counts_and_steps(rt: HostRuntime) {
     // count 0, step 0
-    answer(b"2000 2 29 0 0\n");
+    answer(rt, b"2000 2 29 0 0\n");
     // count 97
-    answer(b"2007 12 31 97 900\n");
+    answer(rt, b"2007 12 31 97 900\n");
     // step 0
-    answer(b"2000 2 29 1 0\n");
+    answer(rt, b"2000 2 29 1 0\n");
     // step 86401
-    answer(b"2000 2 29 1 86401\n");
+    answer(rt, b"2000 2 29 1 86401\n");
     // step 9999999999
-    answer(b"2100 12 31 2 9999999999\n");
+    answer(rt, b"2100 12 31 2 9999999999\n");
     // past the last day
-    answer(b"2100 12 31 2 86400\n");
+    answer(rt, b"2100 12 31 2 86400\n");
 }
 
 // Lines with too few, too many or too long numbers, or no end.
-fn bad_numbers() {
+fn bad_numbers(rt: HostRuntime) {
     // an empty line
-    answer(b"\n");
+    answer(rt, b"\n");
     // no newline
-    answer(b"2000 2 29 1 1");
+    answer(rt, b"2000 2 29 1 1");
     // four numbers
-    answer(b"2000 2 29 1\n");
+    answer(rt, b"2000 2 29 1\n");
     // six numbers
-    answer(b"2000 2 29 1 1 1\n");
+    answer(rt, b"2000 2 29 1 1 1\n");
     // eleven digits
-    answer(b"2000 2 29 1 00000000001\n");
+    answer(rt, b"2000 2 29 1 00000000001\n");
 }
 
 // Lines with a byte that belongs to none.
-fn bad_bytes() {
+fn bad_bytes(rt: HostRuntime) {
     // two spaces
-    answer(b"2000  2 29 1 1\n");
+    answer(rt, b"2000  2 29 1 1\n");
     // a space before
-    answer(b" 2000 2 29 1 1\n");
+    answer(rt, b" 2000 2 29 1 1\n");
     // a space behind
-    answer(b"2000 2 29 1 1 \n");
+    answer(rt, b"2000 2 29 1 1 \n");
     // a tab
-    answer(b"2000\t2 29 1 1\n");
+    answer(rt, b"2000\t2 29 1 1\n");
     // a carriage return
-    answer(b"2000 2 29 1 1\r\n");
+    answer(rt, b"2000 2 29 1 1\r\n");
     // a sign
-    answer(b"+2000 2 29 1 1\n");
+    answer(rt, b"+2000 2 29 1 1\n");
     // a zero byte
-    answer(b"2000 2 29 1 1\0\n");
+    answer(rt, b"2000 2 29 1 1\0\n");
     // a second line
-    answer(b"2000 2 29\n1 1\n");
+    answer(rt, b"2000 2 29\n1 1\n");
 }
 
 // Everything above, a line for each.
-fn main() {
-    show(b"count 96", run_refusal(96));
-    show(b"count 97", run_refusal(97));
-    show(b"second 59, microsecond 999999", time_refusal(59, 999999));
-    show(b"second 60", time_refusal(60, 0));
-    runs();
-    dates();
-    counts_and_steps();
-    bad_numbers();
-    bad_bytes();
+fn main(rt: HostRuntime) {
+    show(rt, b"count 96", run_refusal(96));
+    show(rt, b"count 97", run_refusal(97));
+    show(
+        rt,
+        b"second 59, microsecond 999999",
+        time_refusal(59, 999999),
+    );
+    show(rt, b"second 60", time_refusal(60, 0));
+    runs(rt);
+    dates(rt);
+    counts_and_steps(rt);
+    bad_numbers(rt);
+    bad_bytes(rt);
 }

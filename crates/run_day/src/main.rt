@@ -1,22 +1,22 @@
 // The program run_day: it reads a line from standard input, calls `run_line::answer`, and writes what that puts into the buffer. Its stored input asks for a day of
 // ninety-six quarter-hour records.
 #![tactic(auto)]
+
 ghost use Rattle.std.specs.Prelude.{◌≤◌, length};
 
-use libc::{STDERR_FILENO, STDIN_FILENO, STDOUT_FILENO};
+use std::io::{Read, Stdin};
 
 // Reads standard input up to its first newline, or until s is full, a byte at a time, so that nothing behind the newline is waited for.
 // Returns how many bytes it put at the front of s.
-fn read_line(s: &mut [u8]) -> usize
+fn read_line(mut input: Stdin, s: &mut [u8]) -> usize
     ensures { result ≤ length s.new }
 {
     let mut one = [0u8; 1];
     let mut n = 0;
     while n < s.len() {
-        let got = libc::read(STDIN_FILENO, &mut one);
-        if got <= 0 {
+        let Ok(1) = input.read(&mut one) else {
             return n;
-        }
+        };
         s[n] = one[0];
         n += 1;
         if one[0] == b'\n' {
@@ -27,12 +27,14 @@ fn read_line(s: &mut [u8]) -> usize
 }
 
 // Fifty-five bytes decide a line. What is written for it stands in the program's own buffer; where it cannot be written, one line to standard error says so.
-fn main() {
+fn main(rt: HostRuntime) {
     let mut line = [0u8; 55];
-    let n = read_line(&mut line);
+    let n = read_line(rt.stdin(), &mut line);
     let mut buffer = [0u8; 2880];
     let size = run_line::answer(&line[..n], &mut buffer);
-    if !io::write_all(STDOUT_FILENO, &buffer[..size]) {
-        io::write_all(STDERR_FILENO, b"run_day: the answer could not be written\n");
+    if rt.write_all(&buffer[..size]).is_err() {
+        let _ = rt
+            .stderr()
+            .write_all(b"run_day: the answer could not be written\n");
     }
 }

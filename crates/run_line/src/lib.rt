@@ -1,5 +1,6 @@
 // The answer of run_day to a line of input: the bytes that it writes.
 #![tactic(auto)]
+
 ghost use Rattle.std.specs.Prelude.{◌≡◌, ◌^◌, ◌<◌, length};
 ghost use Rattle.bigendian.specs.Buffers.{at_front};
 ghost use Rattle.run_line.specs.Answer.{room, day_run_text, answer_text};

@@ -1,6 +1,6 @@
 -- A day of the year from 1 on and below 367 is finite and above 0, its whole part is at most 366, and the count of days stays small: so the machine
 -- holds each whole number, and binary64 does. Assumes nothing.
-use Rattle.std.proofs.Common.{ℕ, suc, ◌+◌, ◌-◌, ◌*◌, ◌/◌, ◌^◌, ◌<◌, ◌≤◌, Bool, true, false, cond, ◌||◌, T, ltb, leb, ℤ, pos, negsuc, ◌+ℤ◌, ◌-ℤ◌, ◌*ℤ◌, nat_abs, refl, le_trans, lt_of_le_of_lt, div-lt_iff_lt-mul, arith, lit<, lit≤, ltb→lt, lt→ltb, leb→le, w64, to_z}
+use Rattle.std.proofs.Common.{ℕ, suc, ◌+◌, ◌-◌, ◌*◌, ◌/◌, ◌^◌, ◌<◌, ◌≤◌, Bool, true, false, cond, ◌||◌, T, ltb, leb, pos, negsuc, ◌+ℤ◌, ◌-ℤ◌, ◌*ℤ◌, nat_abs, refl, le_trans, lt_of_le_of_lt, div-lt_iff_lt-mul, arith, lit<, lit≤, ltb→lt, lt→ltb, leb→le, w64, to_z}
 use native.Mathlib.Nat.{min-le_left}
 use lib.Ieee.{Float, nan, inf, fin, up, down, lt, le, eq, of_int, round, to_unsigned}
 use lib.Ieee.Fits.{down_pos}
@@ -17,6 +17,7 @@ use Rattle.schwiderski.specs.Formula.{whole_day, leap_days, day_count}
 -- ---- the day of the year
 or_left : (a b : Bool) → T a → T (a || b)
 or_left true b h = tt
+or_left false b h = elim h [ ]
 
 pub finite_day : (x : Float) → T (le (whole (pos 1)) x) → T (lt x (whole (pos 367))) → T (positive x)
 unfolding of_int round

@@ -1,6 +1,7 @@
 // Service (j): the eleven Schwiderski angles at a day of a year, in radians.
 // Derived from the IERS routine ARG2; not IERS Conventions software (NOTICE, docs/DIFFERENCES.md).
 #![tactic(auto)]
+
 ghost use Rattle.std.specs.Prelude.{◌≡◌, ◌≤◌, T, pos};
 ghost use Rattle.std.specs.Float.Ieee as Ieee;
 ghost use Rattle.binary64.specs.Words.{whole};
@@ -23,7 +24,7 @@ const TWO_PI: f64 = 6.283185307179586476925287;
 const DEGREE: f64 = 0.174532925199e-1;
 
 // What every angle is made of: the seconds of the day, and the mean longitudes of the Sun, of the Moon and of its perigee at its beginning, in radians.
-#[derive(Drop)]
+#[derive(Clone, Copy)]
 struct Longitudes {
     seconds: f64,
     sun: f64,

@@ -1,5 +1,6 @@
 // The programs' words: decimal numerals, and what is written of a refusal.
 #![tactic(auto)]
+
 ghost use Rattle.std.specs.Prelude.{◌≡◌, ◌++◌, ◌≤◌, length};
 ghost use Rattle.bigendian.specs.Buffers.{at_front};
 ghost use Rattle.text.specs.Text.{numeral, refusal_text};

@@ -1,6 +1,7 @@
 // Service (d): frequency and phase of a tidal constituent, from its six Doodson multipliers and a UTC reading.
 // Derived from the IERS routine TDFRPH; not IERS Conventions software (NOTICE, docs/DIFFERENCES.md).
 #![tactic(auto)]
+
 ghost use Rattle.std.specs.Prelude.{◌≡◌, ◌*◌, ◌<◌, T};
 ghost use Rattle.std.specs.Float.{binary64};
 ghost use Rattle.std.specs.Float.Ieee.{in_float};
@@ -15,7 +16,7 @@ ghost use Rattle.tide.specs.Tidal.{day_fraction, centuries, arguments_of, argume
 use utc::{PhaseAnswer, PhaseParts};
 
 // The six multipliers of a constituent.
-#[derive(Drop)]
+#[derive(Clone, Copy)]
 pub struct Doodson {
     pub k1: i64,
     pub k2: i64,

@@ -3,14 +3,15 @@
 // angles bit by bit, a line for each case. What it must print, in stdout, is the output of an
 // independent implementation of docs/RULES.md.
 #![tactic(auto)]
+
 ghost use Rattle.std.specs.Prelude.{◌≡◌, cond};
 ghost use Rattle.std.specs.Float.Ieee as Ieee;
 ghost use Rattle.std.specs.Float.{binary64};
 ghost use Rattle.binary64.specs.Words.{plus};
 ghost use Rattle.schwiderski.specs.Formula.{angles_of};
 
-use libc::STDOUT_FILENO;
 use schwiderski::{Angles, AnglesAnswer};
+use std::io;
 use tide::{Doodson, TideAnswer};
 
 // The bits of x, one pattern for every NaN.
@@ -25,17 +26,15 @@ fn bits(x: f64) -> u64
 }
 
 // A line: a refusal number, and the bits of a frequency and of a phase.
-fn line(refusal: u32, frequency: f64, phase: f64) {
-    io::print_decimal(STDOUT_FILENO, refusal as u64);
-    io::write_all(STDOUT_FILENO, b" ");
-    io::print_hex(STDOUT_FILENO, bits(frequency), 16);
-    io::write_all(STDOUT_FILENO, b" ");
-    io::print_hex(STDOUT_FILENO, bits(phase), 16);
-    io::write_all(STDOUT_FILENO, b"\n");
+fn line(rt: HostRuntime, refusal: u32, frequency: f64, phase: f64) -> io::Result<()> {
+    let frequency = bits(frequency);
+    let phase = bits(phase);
+    println!(rt; "{refusal} {frequency:016x} {phase:016x}")
 }
 
 // The line of a UTC reading and six multipliers.
 fn show(
+    rt: HostRuntime,
     year: u64,
     month: u64,
     day: u64,
@@ -49,7 +48,7 @@ fn show(
     k4: i64,
     k5: i64,
     k6: i64,
-) {
+) -> io::Result<()> {
     let k = Doodson {
         k1,
         k2,
@@ -59,55 +58,55 @@ fn show(
         k6,
     };
     match tide::tide_of(year, month, day, hour, minute, second, microsecond, k) {
-        TideAnswer::Tide(x) => line(0, x.frequency, x.phase),
-        TideAnswer::NoTide(n) => line(n, 0.0, 0.0),
+        TideAnswer::Tide(x) => line(rt, 0, x.frequency, x.phase),
+        TideAnswer::NoTide(n) => line(rt, n, 0.0, 0.0),
     }
 }
 
 // The bits of an angle, after a blank.
-fn angle(x: f64) {
-    io::write_all(STDOUT_FILENO, b" ");
-    io::print_hex(STDOUT_FILENO, bits(x), 16);
+fn angle(rt: HostRuntime, x: f64) -> io::Result<()> {
+    let x = bits(x);
+    print!(rt; " {x:016x}")
 }
 
 // The bits of the eleven.
-fn eleven(a: Angles) {
-    angle(a.m2);
-    angle(a.s2);
-    angle(a.n2);
-    angle(a.k2);
-    angle(a.k1);
-    angle(a.o1);
-    angle(a.p1);
-    angle(a.q1);
-    angle(a.mf);
-    angle(a.mm);
-    angle(a.ssa);
+fn eleven(rt: HostRuntime, a: Angles) -> io::Result<()> {
+    angle(rt, a.m2)?;
+    angle(rt, a.s2)?;
+    angle(rt, a.n2)?;
+    angle(rt, a.k2)?;
+    angle(rt, a.k1)?;
+    angle(rt, a.o1)?;
+    angle(rt, a.p1)?;
+    angle(rt, a.q1)?;
+    angle(rt, a.mf)?;
+    angle(rt, a.mm)?;
+    angle(rt, a.ssa)
 }
 
 // The line of a year and a day of the year: the refusal number, and the eleven where it is 0.
-fn show_angles(year: u64, day: f64) {
+fn show_angles(rt: HostRuntime, year: u64, day: f64) -> io::Result<()> {
     match schwiderski::schwiderski_of(year, day) {
         AnglesAnswer::AtAngles(a) => {
-            io::print_decimal(STDOUT_FILENO, 0);
-            eleven(a);
+            print!(rt; "0")?;
+            eleven(rt, a)?;
         }
         AnglesAnswer::NoAngles(n) => {
-            io::print_decimal(STDOUT_FILENO, n as u64);
+            print!(rt; "{n}")?;
         }
     }
-    io::write_all(STDOUT_FILENO, b"\n");
+    println!(rt; "")
 }
 
 // An angle beside the published one.
-fn compare(name: &[u8], ours: f64, published: f64) {
-    io::write_all(STDOUT_FILENO, name);
-    angle(ours);
+fn compare(rt: HostRuntime, name: &str, ours: f64, published: f64) -> io::Result<()> {
+    print!(rt; "{name}")?;
+    angle(rt, ours)?;
     let apart = ours - published;
     if (-1e-7 <= apart) & (apart <= 1e-7) {
-        io::write_all(STDOUT_FILENO, b" within 1e-7 of ARG2's\n");
+        println!(rt; " within 1e-7 of ARG2's")
     } else {
-        io::write_all(STDOUT_FILENO, b" NOT within 1e-7 of ARG2's\n");
+        println!(rt; " NOT within 1e-7 of ARG2's")
     }
 }
 
@@ -119,137 +118,140 @@ fn case_angles() -> Angles
 }
 
 // Its angles beside the published ones.
-fn published_case() {
+fn published_case(rt: HostRuntime) -> io::Result<()> {
     let a = case_angles();
-    compare(b"M2", a.m2, 0.5785483804494191418);
-    compare(b"S2", a.s2, 6.28318080000000023);
-    compare(b"N2", a.n2, 5.897950576134803669);
-    compare(b"K2", a.k2, 1.615958909210931438);
-    compare(b"K1", a.k1, 2.378775781400364053);
-    compare(b"O1", a.o1, 4.482957906228527634);
-    compare(b"P1", a.p1, 3.904405018599632626);
-    compare(b"Q1", a.q1, 3.519174794734325928);
-    compare(b"Mf", a.mf, 1.037427808761705705);
-    compare(b"Mm", a.mm, 0.9637917514941207742);
-    compare(b"Ssa", a.ssa, 1.615972056390525324);
+    compare(rt, "M2", a.m2, 0.5785483804494191418)?;
+    compare(rt, "S2", a.s2, 6.28318080000000023)?;
+    compare(rt, "N2", a.n2, 5.897950576134803669)?;
+    compare(rt, "K2", a.k2, 1.615958909210931438)?;
+    compare(rt, "K1", a.k1, 2.378775781400364053)?;
+    compare(rt, "O1", a.o1, 4.482957906228527634)?;
+    compare(rt, "P1", a.p1, 3.904405018599632626)?;
+    compare(rt, "Q1", a.q1, 3.519174794734325928)?;
+    compare(rt, "Mf", a.mf, 1.037427808761705705)?;
+    compare(rt, "Mm", a.mm, 0.9637917514941207742)?;
+    compare(rt, "Ssa", a.ssa, 1.615972056390525324)
 }
 
 // The cases of the angles, in groups.
-fn angles_cases() {
-    published_case();
+fn angles_cases(rt: HostRuntime) -> io::Result<()> {
+    published_case(rt)?;
     // The day of that case in 2008, and the years around it.
-    show_angles(2008, 311.5);
-    show_angles(2007, 311.5);
-    show_angles(2009, 311.5);
+    show_angles(rt, 2008, 311.5)?;
+    show_angles(rt, 2007, 311.5)?;
+    show_angles(rt, 2009, 311.5)?;
     // The first and the last years and days.
-    show_angles(1974, 1.0);
-    show_angles(1974, 1.0000000000000002);
-    show_angles(1974, 365.0);
-    show_angles(1974, 365.99999999999994);
-    show_angles(2100, 1.0);
-    show_angles(2100, 59.5);
-    show_angles(2100, 365.99999999999994);
+    show_angles(rt, 1974, 1.0)?;
+    show_angles(rt, 1974, 1.0000000000000002)?;
+    show_angles(rt, 1974, 365.0)?;
+    show_angles(rt, 1974, 365.99999999999994)?;
+    show_angles(rt, 2100, 1.0)?;
+    show_angles(rt, 2100, 59.5)?;
+    show_angles(rt, 2100, 365.99999999999994)?;
     // The last days of leap years.
-    show_angles(1976, 366.0);
-    show_angles(2000, 366.99999999999994);
-    show_angles(2096, 366.99999999999994);
+    show_angles(rt, 1976, 366.0)?;
+    show_angles(rt, 2000, 366.99999999999994)?;
+    show_angles(rt, 2096, 366.99999999999994)?;
     // Parts of a day.
-    show_angles(2020, 1.25);
-    show_angles(2020, 32.5);
-    show_angles(2020, 60.000001);
-    show_angles(2021, 123.456789012345);
-    show_angles(2050, 145.63555555555553);
+    show_angles(rt, 2020, 1.25)?;
+    show_angles(rt, 2020, 32.5)?;
+    show_angles(rt, 2020, 60.000001)?;
+    show_angles(rt, 2021, 123.456789012345)?;
+    show_angles(rt, 2050, 145.63555555555553)?;
     // Remainders of minus zero: of M2, N2, O1, P1 and Q1.
-    show_angles(1982, 291.01464958320986);
-    show_angles(1980, 318.0525718132723);
-    show_angles(1979, 198.07416788780444);
-    show_angles(1979, 1.0280169178213445);
-    show_angles(1978, 280.0070584476192);
+    show_angles(rt, 1982, 291.01464958320986)?;
+    show_angles(rt, 1980, 318.0525718132723)?;
+    show_angles(rt, 1979, 198.07416788780444)?;
+    show_angles(rt, 1979, 1.0280169178213445)?;
+    show_angles(rt, 1978, 280.0070584476192)?;
     // Refused by 1, whatever the day.
-    show_angles(1973, 1.0);
-    show_angles(2101, 1.0);
-    show_angles(0, 0.0 / 0.0);
-    show_angles(8, 311.5);
-    show_angles(108, 311.5);
-    show_angles(0xffff_ffff_ffff_ffff, 400.0);
+    show_angles(rt, 1973, 1.0)?;
+    show_angles(rt, 2101, 1.0)?;
+    show_angles(rt, 0, 0.0 / 0.0)?;
+    show_angles(rt, 8, 311.5)?;
+    show_angles(rt, 108, 311.5)?;
+    show_angles(rt, 0xffff_ffff_ffff_ffff, 400.0)?;
     // Refused by 26.
-    show_angles(2008, 0.0 / 0.0);
-    show_angles(2008, 1.0 / 0.0);
-    show_angles(2008, -1.0 / 0.0);
-    show_angles(2008, 0.9999999999999999);
-    show_angles(2008, 0.0);
-    show_angles(2008, -0.0);
-    show_angles(2008, -311.5);
-    show_angles(2008, 367.0);
-    show_angles(2007, 366.0);
-    show_angles(2100, 366.0);
-    show_angles(2008, 1e300);
+    show_angles(rt, 2008, 0.0 / 0.0)?;
+    show_angles(rt, 2008, 1.0 / 0.0)?;
+    show_angles(rt, 2008, -1.0 / 0.0)?;
+    show_angles(rt, 2008, 0.9999999999999999)?;
+    show_angles(rt, 2008, 0.0)?;
+    show_angles(rt, 2008, -0.0)?;
+    show_angles(rt, 2008, -311.5)?;
+    show_angles(rt, 2008, 367.0)?;
+    show_angles(rt, 2007, 366.0)?;
+    show_angles(rt, 2100, 366.0)?;
+    show_angles(rt, 2008, 1e300)
 }
 
 // The cases, in groups.
-fn main() {
+fn main(rt: HostRuntime) -> io::Result<()> {
     // M2 at the two readings of TDFRPH's test cases.
-    show(2009, 6, 25, 0, 0, 0, 0, 2, 0, 0, 0, 0, 0);
-    show(2009, 6, 25, 12, 1, 45, 0, 2, 0, 0, 0, 0, 0);
+    show(rt, 2009, 6, 25, 0, 0, 0, 0, 2, 0, 0, 0, 0, 0)?;
+    show(rt, 2009, 6, 25, 12, 1, 45, 0, 2, 0, 0, 0, 0, 0)?;
     // Species 0: Mf, Mm, Ssa, Sa and the lunar node.
-    show(2007, 12, 31, 0, 0, 0, 0, 0, 2, 0, 0, 0, 0);
-    show(2007, 12, 31, 0, 0, 0, 0, 0, 1, 0, -1, 0, 0);
-    show(2007, 12, 31, 0, 0, 0, 1, 0, 0, 2, 0, 0, 0);
-    show(2007, 12, 31, 3, 25, 45, 678901, 0, 0, 1, 0, 0, -1);
-    show(2007, 12, 31, 23, 59, 59, 999999, 0, 0, 0, 0, 1, 0);
+    show(rt, 2007, 12, 31, 0, 0, 0, 0, 0, 2, 0, 0, 0, 0)?;
+    show(rt, 2007, 12, 31, 0, 0, 0, 0, 0, 1, 0, -1, 0, 0)?;
+    show(rt, 2007, 12, 31, 0, 0, 0, 1, 0, 0, 2, 0, 0, 0)?;
+    show(rt, 2007, 12, 31, 3, 25, 45, 678901, 0, 0, 1, 0, 0, -1)?;
+    show(rt, 2007, 12, 31, 23, 59, 59, 999999, 0, 0, 0, 0, 1, 0)?;
     // Species 1: K1, O1, P1, Q1, psi1.
-    show(2020, 1, 1, 6, 0, 0, 0, 1, 1, 0, 0, 0, 0);
-    show(2020, 1, 1, 6, 0, 0, 0, 1, -1, 0, 0, 0, 0);
-    show(2020, 1, 1, 18, 0, 0, 0, 1, 1, -2, 0, 0, 0);
-    show(2020, 1, 1, 18, 0, 0, 0, 1, -2, 0, 1, 0, 0);
-    show(2020, 1, 1, 0, 0, 0, 1, 1, 1, 1, 0, 0, -1);
+    show(rt, 2020, 1, 1, 6, 0, 0, 0, 1, 1, 0, 0, 0, 0)?;
+    show(rt, 2020, 1, 1, 6, 0, 0, 0, 1, -1, 0, 0, 0, 0)?;
+    show(rt, 2020, 1, 1, 18, 0, 0, 0, 1, 1, -2, 0, 0, 0)?;
+    show(rt, 2020, 1, 1, 18, 0, 0, 0, 1, -2, 0, 1, 0, 0)?;
+    show(rt, 2020, 1, 1, 0, 0, 0, 1, 1, 1, 1, 0, 0, -1)?;
     // Species 2: S2, K2, N2.
-    show(2023, 2, 25, 21, 36, 17, 777777, 2, 2, -2, 0, 0, 0);
-    show(2023, 2, 25, 21, 36, 17, 777777, 2, 2, 0, 0, 0, 0);
-    show(2023, 2, 25, 21, 36, 17, 777777, 2, -1, 0, 1, 0, 0);
+    show(rt, 2023, 2, 25, 21, 36, 17, 777777, 2, 2, -2, 0, 0, 0)?;
+    show(rt, 2023, 2, 25, 21, 36, 17, 777777, 2, 2, 0, 0, 0, 0)?;
+    show(rt, 2023, 2, 25, 21, 36, 17, 777777, 2, -1, 0, 1, 0, 0)?;
     // Species 3: M3, and one with all six.
-    show(1990, 1, 1, 1, 0, 0, 0, 3, 0, 0, 0, 0, 0);
-    show(1990, 1, 1, 1, 0, 0, 0, 3, -2, 1, 2, -1, 1);
+    show(rt, 1990, 1, 1, 1, 0, 0, 0, 3, 0, 0, 0, 0, 0)?;
+    show(rt, 1990, 1, 1, 1, 0, 0, 0, 3, -2, 1, 2, -1, 1)?;
     // Negative species, on both sides of J2000.0, which is 2000-01-01 11:58:55.816.
-    show(2000, 1, 1, 11, 58, 55, 816000, -1, 0, 0, 0, 0, 0);
-    show(2000, 1, 1, 11, 58, 55, 816001, -2, 1, 0, 0, 3, 0);
-    show(2000, 1, 1, 11, 58, 55, 815999, -3, 0, 4, -5, 0, 0);
-    show(1972, 6, 30, 0, 0, 1, 0, -12, 0, 0, 0, 0, 0);
+    show(rt, 2000, 1, 1, 11, 58, 55, 816000, -1, 0, 0, 0, 0, 0)?;
+    show(rt, 2000, 1, 1, 11, 58, 55, 816001, -2, 1, 0, 0, 3, 0)?;
+    show(rt, 2000, 1, 1, 11, 58, 55, 815999, -3, 0, 4, -5, 0, 0)?;
+    show(rt, 1972, 6, 30, 0, 0, 1, 0, -12, 0, 0, 0, 0, 0)?;
     // The ends of the list.
-    show(1972, 1, 1, 0, 0, 0, 0, 2, 0, 0, 0, 0, 0);
-    show(1972, 1, 1, 0, 0, 0, 0, 12, 12, 12, 12, 12, 12);
-    show(1972, 1, 1, 23, 59, 59, 999999, 1, -1, 12, -12, 7, -3);
-    show(2025, 6, 27, 0, 0, 0, 0, -12, -12, -12, -12, -12, -12);
-    show(2025, 6, 27, 0, 0, 0, 1, -12, 12, 5, 0, -1, 1);
-    show(2025, 6, 27, 23, 59, 59, 999999, 2, 0, 0, 0, 0, 0);
-    show(2025, 6, 27, 23, 59, 59, 999999, 12, -12, 12, -12, 12, -12);
-    // Around a midnight without a leap second.
-    show(2000, 1, 1, 23, 59, 59, 999999, 2, 0, 0, 0, 0, 0);
-    show(2000, 1, 2, 0, 0, 0, 0, 2, 0, 0, 0, 0, 0);
-    show(2000, 1, 2, 0, 0, 0, 1, 2, 0, 0, 0, 0, 0);
-    // Around a leap second: in second 60 the fraction of the day is 1 or more.
-    show(2016, 12, 31, 23, 59, 59, 999999, 2, 0, 0, 0, 0, 0);
-    show(2016, 12, 31, 23, 59, 60, 0, 2, 0, 0, 0, 0, 0);
-    show(2016, 12, 31, 23, 59, 60, 500000, 2, 0, 0, 0, 0, 0);
-    show(2016, 12, 31, 23, 59, 60, 999999, 2, 0, 0, 0, 0, 0);
-    show(2017, 1, 1, 0, 0, 0, 0, 2, 0, 0, 0, 0, 0);
-    show(1972, 6, 30, 23, 59, 60, 0, 2, 0, 0, 0, 0, 0);
-    show(1972, 6, 30, 23, 59, 60, 999999, 1, 12, -12, 3, 0, -7);
-    // Sums that are negative and tiny, on both sides of 0.
-    show(2006, 6, 19, 21, 22, 29, 684935, 0, 0, 0, 0, 1, 0);
-    show(2006, 6, 19, 21, 22, 29, 684935, 0, 0, 0, 0, -1, 0);
-    show(2006, 6, 19, 21, 22, 29, 684936, 0, 0, 0, 0, -1, 0);
-    // A sum of -225000, whose remainder is minus zero, and one of 247680.
-    show(2025, 3, 26, 9, 46, 42, 50397, 2, 0, 0, 0, 0, 0);
-    show(1972, 2, 27, 10, 28, 39, 410886, 2, 0, 0, 0, 0, 0);
-    // Six zeros.
-    show(1972, 1, 1, 0, 0, 0, 0, 0, 0, 0, 0, 0, 0);
-    show(2016, 12, 31, 23, 59, 60, 999999, 0, 0, 0, 0, 0, 0);
-    show(2025, 6, 27, 23, 59, 59, 999999, 0, 0, 0, 0, 0, 0);
-    // Refused by 1 to 7, whatever else is wrong.
-    show(1899, 13, 1, 0, 0, 0, 0, 2, 0, 0, 0, 0, 0);
-    show(2101, 1, 1, 0, 0, 0, 0, 13, 0, 0, 0, 0, 0);
+    show(rt, 1972, 1, 1, 0, 0, 0, 0, 2, 0, 0, 0, 0, 0)?;
+    show(rt, 1972, 1, 1, 0, 0, 0, 0, 12, 12, 12, 12, 12, 12)?;
+    show(rt, 1972, 1, 1, 23, 59, 59, 999999, 1, -1, 12, -12, 7, -3)?;
+    show(rt, 2025, 6, 27, 0, 0, 0, 0, -12, -12, -12, -12, -12, -12)?;
+    show(rt, 2025, 6, 27, 0, 0, 0, 1, -12, 12, 5, 0, -1, 1)?;
+    show(rt, 2025, 6, 27, 23, 59, 59, 999999, 2, 0, 0, 0, 0, 0)?;
     show(
+        rt, 2025, 6, 27, 23, 59, 59, 999999, 12, -12, 12, -12, 12, -12,
+    )?;
+    // Around a midnight without a leap second.
+    show(rt, 2000, 1, 1, 23, 59, 59, 999999, 2, 0, 0, 0, 0, 0)?;
+    show(rt, 2000, 1, 2, 0, 0, 0, 0, 2, 0, 0, 0, 0, 0)?;
+    show(rt, 2000, 1, 2, 0, 0, 0, 1, 2, 0, 0, 0, 0, 0)?;
+    // Around a leap second: in second 60 the fraction of the day is 1 or more.
+    show(rt, 2016, 12, 31, 23, 59, 59, 999999, 2, 0, 0, 0, 0, 0)?;
+    show(rt, 2016, 12, 31, 23, 59, 60, 0, 2, 0, 0, 0, 0, 0)?;
+    show(rt, 2016, 12, 31, 23, 59, 60, 500000, 2, 0, 0, 0, 0, 0)?;
+    show(rt, 2016, 12, 31, 23, 59, 60, 999999, 2, 0, 0, 0, 0, 0)?;
+    show(rt, 2017, 1, 1, 0, 0, 0, 0, 2, 0, 0, 0, 0, 0)?;
+    show(rt, 1972, 6, 30, 23, 59, 60, 0, 2, 0, 0, 0, 0, 0)?;
+    show(rt, 1972, 6, 30, 23, 59, 60, 999999, 1, 12, -12, 3, 0, -7)?;
+    // Sums that are negative and tiny, on both sides of 0.
+    show(rt, 2006, 6, 19, 21, 22, 29, 684935, 0, 0, 0, 0, 1, 0)?;
+    show(rt, 2006, 6, 19, 21, 22, 29, 684935, 0, 0, 0, 0, -1, 0)?;
+    show(rt, 2006, 6, 19, 21, 22, 29, 684936, 0, 0, 0, 0, -1, 0)?;
+    // A sum of -225000, whose remainder is minus zero, and one of 247680.
+    show(rt, 2025, 3, 26, 9, 46, 42, 50397, 2, 0, 0, 0, 0, 0)?;
+    show(rt, 1972, 2, 27, 10, 28, 39, 410886, 2, 0, 0, 0, 0, 0)?;
+    // Six zeros.
+    show(rt, 1972, 1, 1, 0, 0, 0, 0, 0, 0, 0, 0, 0, 0)?;
+    show(rt, 2016, 12, 31, 23, 59, 60, 999999, 0, 0, 0, 0, 0, 0)?;
+    show(rt, 2025, 6, 27, 23, 59, 59, 999999, 0, 0, 0, 0, 0, 0)?;
+    // Refused by 1 to 7, whatever else is wrong.
+    show(rt, 1899, 13, 1, 0, 0, 0, 0, 2, 0, 0, 0, 0, 0)?;
+    show(rt, 2101, 1, 1, 0, 0, 0, 0, 13, 0, 0, 0, 0, 0)?;
+    show(
+        rt,
         0xffff_ffff_ffff_ffff,
         0,
         0,
@@ -263,19 +265,20 @@ fn main() {
         0,
         0,
         -13,
-    );
-    show(1971, 13, 1, 0, 0, 0, 0, 2, 0, 0, 0, 0, 0);
-    show(2025, 2, 29, 24, 0, 0, 0, 13, 0, 0, 0, 0, 0);
-    show(2025, 6, 28, 24, 60, 0, 0, 2, 0, 0, 0, 0, 0);
-    show(1971, 12, 31, 23, 60, 60, 0, 13, 0, 0, 0, 0, 0);
-    show(2016, 12, 30, 23, 59, 60, 0, 2, 0, 0, 0, 0, 0);
-    show(2016, 12, 31, 23, 59, 61, 0, 2, 0, 0, 0, 0, 0);
-    show(1971, 1, 1, 0, 0, 0, 1000000, 13, 0, 0, 0, 0, 0);
+    )?;
+    show(rt, 1971, 13, 1, 0, 0, 0, 0, 2, 0, 0, 0, 0, 0)?;
+    show(rt, 2025, 2, 29, 24, 0, 0, 0, 13, 0, 0, 0, 0, 0)?;
+    show(rt, 2025, 6, 28, 24, 60, 0, 0, 2, 0, 0, 0, 0, 0)?;
+    show(rt, 1971, 12, 31, 23, 60, 60, 0, 13, 0, 0, 0, 0, 0)?;
+    show(rt, 2016, 12, 30, 23, 59, 60, 0, 2, 0, 0, 0, 0, 0)?;
+    show(rt, 2016, 12, 31, 23, 59, 61, 0, 2, 0, 0, 0, 0, 0)?;
+    show(rt, 1971, 1, 1, 0, 0, 0, 1000000, 13, 0, 0, 0, 0, 0)?;
     // Refused by 19 and 20, whatever the multipliers.
-    show(1971, 12, 31, 23, 59, 59, 999999, 2, 0, 0, 0, 0, 0);
-    show(1900, 1, 1, 0, 0, 0, 0, 0, 0, 13, 0, 0, 0);
-    show(2025, 6, 28, 0, 0, 0, 0, 2, 0, 0, 0, 0, 0);
+    show(rt, 1971, 12, 31, 23, 59, 59, 999999, 2, 0, 0, 0, 0, 0)?;
+    show(rt, 1900, 1, 1, 0, 0, 0, 0, 0, 0, 13, 0, 0, 0)?;
+    show(rt, 2025, 6, 28, 0, 0, 0, 0, 2, 0, 0, 0, 0, 0)?;
     show(
+        rt,
         2100,
         12,
         31,
@@ -289,13 +292,14 @@ fn main() {
         0,
         0,
         -0x8000_0000_0000_0000,
-    );
+    )?;
     // Refused by 11, in each place.
-    show(2009, 6, 25, 0, 0, 0, 0, 13, 0, 0, 0, 0, 0);
-    show(2009, 6, 25, 0, 0, 0, 0, 0, -13, 0, 0, 0, 0);
-    show(2009, 6, 25, 0, 0, 0, 0, 0, 0, 13, 0, 0, 0);
-    show(2009, 6, 25, 0, 0, 0, 0, 0, 0, 0, -13, 0, 0);
+    show(rt, 2009, 6, 25, 0, 0, 0, 0, 13, 0, 0, 0, 0, 0)?;
+    show(rt, 2009, 6, 25, 0, 0, 0, 0, 0, -13, 0, 0, 0, 0)?;
+    show(rt, 2009, 6, 25, 0, 0, 0, 0, 0, 0, 13, 0, 0, 0)?;
+    show(rt, 2009, 6, 25, 0, 0, 0, 0, 0, 0, 0, -13, 0, 0)?;
     show(
+        rt,
         2009,
         6,
         25,
@@ -309,8 +313,9 @@ fn main() {
         0,
         0x7fff_ffff_ffff_ffff,
         0,
-    );
+    )?;
     show(
+        rt,
         2009,
         6,
         25,
@@ -324,6 +329,6 @@ fn main() {
         0,
         0,
         -0x8000_0000_0000_0000,
-    );
-    angles_cases();
+    )?;
+    angles_cases(rt)
 }

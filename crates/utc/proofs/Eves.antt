@@ -49,6 +49,8 @@ before_eves (t ∷ ts) (r ∷ rs) h s v =
     let a : _ × _ = and_yes (eve_of t r) _ h in
     let e : Tied t r = tied t r a.0 in
     rw (← e.index, one_more (date_index s) (date_index t), same_index s t v e.real, before_eves ts rs a.1 s v) refl
+before_eves [] (r ∷ rs) h s v = elim h [ ]
+before_eves (t ∷ ts) [] h s v = elim h [ ]
 
 -- Where the dates ts are the days before the later rows, a date has a second 60 exactly when it is one of them.
 pub has_second_60 : (ts : List Date) → T (eves_of ts later_steps) → (s : Date) → Valid s → has_second60 (date_index s) ≡ one_of s.year s.month s.day ts
@@ -78,6 +80,8 @@ sixty_to n h = by (dec_le 155407 n)
 -- each of the dates is a date of the calendar
 one_valid : (ts : List Date) (rs : List Step) → T (eves_of ts rs) → (y m d : ℕ) → T (one_of y m d ts) → Valid (date y m d)
 unfolding eves_of one_of
+one_valid [] rs h y m d o = elim o [ ]
+one_valid (t ∷ ts) [] h y m d o = elim h [ ]
 one_valid (t ∷ ts) (r ∷ rs) h y m d o =
     let a : _ × _ = and_yes (eve_of t r) _ h in
     ⊎_elim (λ p. is t (tied t r a.0).real y m d p) (λ p. one_valid ts rs a.1 y m d p) (or_yes (same y m d t) _ o)
@@ -90,6 +94,7 @@ one_valid (t ∷ ts) (r ∷ rs) h y m d o =
 
 is_true : (b : Bool) → T b → b ≡ true
 is_true true t = refl
+is_true false t = elim t [ ]
 
 module _ (ts : List Date) (eves : T (eves_of ts later_steps)) where
   -- PROMISE. A second past 59 that is accepted is second 60 at 23:59 of one of these dates.

@@ -1,5 +1,6 @@
 // UTC readings, by the IERS list of leap seconds: which are accepted, their instants of Terrestrial Time (TT), and back.
 #![tactic(auto)]
+
 ghost use Rattle.std.specs.Prelude.{◌≡◌, ◌*◌, ◌≤◌, ◌<◌};
 ghost use Rattle.instants.specs.Limits.{day_micros, days_covered};
 ghost use Rattle.utc.specs.Table.{tai_minus_utc, tt_minus_utc};
@@ -51,7 +52,7 @@ pub struct Reading {
 }
 
 // A UTC day by its index from 1600-01-01, and microseconds since its beginning: fewer than a day has, or in second 60 up to a second more.
-#[derive(Drop)]
+#[derive(Clone, Copy)]
 pub struct UtcTime {
     index: u64,
     micros: u64,
@@ -65,7 +66,7 @@ enum UtcAnswer {
 }
 
 // The parts of an instant for phases: one moment as Terrestrial Time and as UTC. They are private, and `phase_parts` alone makes them, of an accepted reading.
-#[derive(Drop)]
+#[derive(Clone, Copy)]
 pub struct PhaseParts {
     tt: Instant,
     utc: UtcTime,

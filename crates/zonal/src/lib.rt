@@ -2,6 +2,7 @@
 // Their distance from the exact sums is proved in proofs/Distance.antt, and promised in proofs/Promises.antt.
 // Derived from the IERS routine RG_ZONT2; not IERS Conventions software (NOTICE, docs/DIFFERENCES.md).
 #![tactic(auto)]
+
 mod table;
 
 ghost use Rattle.std.specs.Prelude.{◌≡◌, ◌≤◌, ◌<◌, nat_abs, ◌+ℤ◌, ◌*ℤ◌};

@@ -1,0 +1,19 @@
+-- Six fields put into zeros.
+use Rattle.std.proofs.Common.{ap, ◌∙◌, rules, SFits, w64, to_z-of_z}
+use Rattle.bigendian.specs.Numbers.{twos_complement}
+use Rattle.compare.proofs.Entries.{all_fields}
+use Rattle.compare.proofs.entry_bytes.Goals as goal
+
+pub returns : goal.returns
+returns c =
+    let e = c.args.e in
+    let d : SFits w64 e.day = search rules in
+    let f : SFits w64 e.ut1 = search rules in
+    let g : SFits w64 e.lod = search rules in
+    let h : SFits w64 e.rate = search rules in
+    all_fields e _ _ _ _ _ _ _ _ _ _
+    c.put_field.ensures c.put_field-2.ensures c.put_field-3.ensures c.put_field-4.ensures c.put_field-5.ensures c.put_field-6.ensures
+    (c.twos_complement.ensures.number ∙ ap (twos_complement 4) (to_z-of_z d))
+    (c.twos_complement_64.ensures ∙ ap (twos_complement 8) (to_z-of_z f))
+    (c.twos_complement_64-2.ensures ∙ ap (twos_complement 8) (to_z-of_z g))
+    (c.twos_complement_64-3.ensures ∙ ap (twos_complement 8) (to_z-of_z h))

@@ -1,0 +1,39 @@
+-- An accepted day number is small, so that its sum with the offset is its index.
+use Rattle.std.proofs.Common.{◌≡◌, ◌∙◌, ap, sym, arith, ◌<◌, ℕ, ℤ, pos, ◌+ℤ◌, w64, to_z, of_z, FitsSigned}
+use lib.IntN.{nat_abs}
+use Rattle.instants.specs.Limits.{index_offset, days_covered}
+use Rattle.instants.specs.Instants.{day_index, IsAccepted}
+use Rattle.instants.specs.Moments.{moment}
+use Rattle.instants.proofs.Signs.{DayInRange, biased_sum, biased_read}
+use Rattle.instants.proofs.Accepted.{AcceptedAt, accepted_at, range, index_of}
+use Rattle.instants.proofs.moment_of.Goals as goal
+
+module _ (d : ℤ) (m : ℕ) (f : FitsSigned w64 d) (a : IsAccepted d m) where
+  at : AcceptedAt d m (day_index d)
+  at = accepted_at d m _ a
+
+  day : DayInRange d
+  day = range d at.inside
+
+  -- what the code adds up is the index
+  reads : to_z w64 (of_z w64 (to_z w64 (of_z w64 d) +ℤ pos index_offset)) ≡ pos (day_index d)
+  reads = biased_read d f day ∙ ap pos (sym (index_of d day))
+
+  covered : day_index d < days_covered
+  covered = omega (arith, at.high)
+
+pub overflow_add-day : goal.overflow_add-day
+overflow_add-day c = biased_sum c.args.day c.ranges.day (day c.args.day _ c.ranges.day c.requires)
+
+pub overflow_cast-day : goal.overflow_cast-day
+overflow_cast-day c =
+    rw (reads c.args.day _ c.ranges.day c.requires) (tt, record { fits = omega (arith, covered c.args.day _ c.ranges.day c.requires) })
+
+pub moment-requires-clause-index : goal.moment-requires-clause-index
+moment-requires-clause-index c = rw (reads c.args.day _ c.ranges.day c.requires) (covered c.args.day _ c.ranges.day c.requires)
+
+pub moment-requires-clause-micros : goal.moment-requires-clause-micros
+moment-requires-clause-micros c = (at c.args.day _ c.ranges.day c.requires).less
+
+pub returns : goal.returns
+returns c = c.moment.ensures ∙ ap (λ (z : ℤ). moment (nat_abs z) c.args.micros) (reads c.args.day _ c.ranges.day c.requires)

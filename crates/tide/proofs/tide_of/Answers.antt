@@ -1,0 +1,40 @@
+-- `tide::tide_of` meets its contract: both answers are made at the reading's instant for phases, or are its refusal.
+use Rattle.std.proofs.Common.{◌≡◌, ◌∙◌, ap, sym, ℕ}
+use Rattle.instants.proofs.Impossible.{impossible}
+use Rattle.utc.specs.PhaseInstants.{PhaseInstant}
+use Rattle.utc.specs.Inner.{parts_of, phase_answer}
+use Rattle.utc.specs.declared.Reading.{Reading}
+use Rattle.utc.specs.declared.PhaseParts.{PhaseParts}
+use Rattle.utc.specs.declared.PhaseAnswer.{PhaseAnswer}
+use Rattle.utc.specs.declared.PhaseAnswer.TheVariants.{AtPhase, NoPhase}
+use Rattle.utc.proofs.PhaseInstants.{at_both, answer_together}
+use Rattle.tide.specs.Tidal.{arguments_at, answer_of, tide_of}
+use Rattle.tide.specs.declared.Arguments.{Arguments}
+use Rattle.tide.specs.declared.Doodson.{Doodson}
+use Rattle.tide.specs.declared.TideAnswer.{TideAnswer}
+use Rattle.tide.specs.declared.TideAnswer.TheVariants.{NoTide}
+use Rattle.tide.proofs.tide_of.Goals as goal
+
+module _ (r : Reading) (k : Doodson) where
+  -- where the parts are given, the answer is that of their arguments
+  answered : (x : PhaseParts) (a : Arguments) → ((p : PhaseInstant) → x ≡ parts_of p → a ≡ arguments_at p) → phase_answer r ≡ AtPhase x → answer_of a k ≡ tide_of r k
+  unfolding phase_answer tide_of
+  answered x a h =
+      at_both (λ (y : PhaseAnswer) (z : TideAnswer). y ≡ AtPhase x → answer_of a k ≡ z) NoPhase NoTide (λ p. AtPhase (parts_of p)) (λ p. answer_of (arguments_at p) k) r
+      (λ n e. impossible (cc)) (λ p _ e. ap (λ (a : Arguments). answer_of a k) (h p (cc)))
+
+  -- where a refusal is, it is handed on
+  refused : (n : ℕ) → phase_answer r ≡ NoPhase n → NoTide n ≡ tide_of r k
+  unfolding phase_answer tide_of
+  refused n =
+      at_both (λ (y : PhaseAnswer) (z : TideAnswer). y ≡ NoPhase n → NoTide n ≡ z) NoPhase NoTide (λ p. AtPhase (parts_of p)) (λ p. answer_of (arguments_at p) k) r
+      (λ m e. ap NoTide (cc)) (λ p _ e. impossible (cc))
+
+pub arguments_at-requires : goal.arguments_at-requires
+arguments_at-requires c = answer_together _ _ (sym c.in-AtPhase.ensures)
+
+pub returns-in-AtPhase : goal.returns-in-AtPhase
+returns-in-AtPhase c = c.answer_from.ensures ∙ answered _ _ _ _ c.arguments_at.ensures (sym c.in-AtPhase.ensures)
+
+pub returns-in-NoPhase : goal.returns-in-NoPhase
+returns-in-NoPhase c = refused _ _ _ (sym c.in-NoPhase.ensures)
