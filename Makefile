@@ -39,12 +39,12 @@ program: $(PROGRAM) $(RESCUE) $(COMPARE)
 
 # `rt lib` and `rt run` leave what they make in the crate's folder out/
 $(ARCHIVE): $(CRATES)
-	$(RT) lib enfysgar
+	cd crates/enfysgar && $(RT) lib
 	@mkdir -p $(@D)
 	cp crates/enfysgar/out/libenfysgar.a $@
 
 $(PROGRAM) $(RESCUE): target/bin/%: $(CRATES)
-	$(RT) run $* </dev/null >/dev/null
+	cd crates/$* && $(RT) run </dev/null >/dev/null
 	@mkdir -p $(@D)
 	cp crates/$*/out/$* $@
 
