@@ -50,7 +50,7 @@ $(PROGRAM) $(RESCUE): target/bin/%: $(CRATES)
 
 build/examples/%: examples/%.c include/enfysgar.h $(ARCHIVE)
 	@mkdir -p build/examples
-	$(CC) -std=c11 $(CFLAGS) -Iinclude -o $@ $< $(ARCHIVE) -lm
+	$(CC) -std=c11 $(CFLAGS) -Iinclude -o $@ $< $(ARCHIVE)
 
 demo: $(PROGRAM) build/examples/show_records
 	echo "$(DAY)" | $(PROGRAM) | build/examples/show_records

@@ -2,7 +2,7 @@
  * compare_records: prints what differs between two files of records, such as run_day writes, as a table. The library
  * compares; this program, which reads the files and prints, is an example and not part of the proved product.
  *
- *     cc -O2 -Iinclude examples/compare_records.c target/staticlib/libenfysgar.a -lm -o compare_records
+ *     cc -O2 -Iinclude examples/compare_records.c target/staticlib/libenfysgar.a -o compare_records
  *     ./compare_records FILE FILE
  *
  * One of the files may be `-`, standard input. A file that the library refuses is named on standard error, with the

@@ -6,7 +6,7 @@
  * each refusal means. The clock and the operator here are made up; nothing of this file is part of the proved
  * product.
  *
- *     cc -O2 -Iinclude examples/daemon.c target/staticlib/libenfysgar.a -lm -o daemon
+ *     cc -O2 -Iinclude examples/daemon.c target/staticlib/libenfysgar.a -o daemon
  *     ./daemon ['2016-12-31 23:59:60.5' ..]
  */
 #include <enfysgar.h>

@@ -4,7 +4,7 @@
  * probed for it, beside those of the built-in rows. A year's new table is a new file, and the daemon stays as it
  * is. It is an example and not part of the proved product.
  *
- *     cc -O2 -Iinclude examples/nutation_rows.c target/staticlib/libenfysgar.a -lm -o nutation_rows
+ *     cc -O2 -Iinclude examples/nutation_rows.c target/staticlib/libenfysgar.a -o nutation_rows
  *     ./nutation_rows FILE DAY MICROS
  *
  * Status 0: both were answered; 1: the file could not be read, or a refusal; 2: wrong usage.

@@ -2,7 +2,7 @@
  * rescue_image: rescues the records of an image of a bad disk, of any size, with a window of 65536 bytes in memory.
  * It keeps just what one walk over the whole image would keep. It is an example and not part of the proved product.
  *
- *     cc -O2 -Iinclude examples/rescue_image.c target/staticlib/libenfysgar.a -lm -o rescue_image
+ *     cc -O2 -Iinclude examples/rescue_image.c target/staticlib/libenfysgar.a -o rescue_image
  *     ./rescue_image IMAGE RECORDS
  *
  * IMAGE may be a pipe, and `-` is standard input. The kept records are written to the file RECORDS; standard output

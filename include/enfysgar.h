@@ -4,8 +4,7 @@
  * comparison of two files of them, UTC to TT and back, and Schwiderski's tidal
  * angles, for a timing unit.
  *
- * Include this header, and link libenfysgar.a and the mathematical library, which
- * has fmod:
+ * Include this header, and link libenfysgar.a:
  *
  *     cc daemon.c $(pkg-config --cflags --libs enfysgar)
  *
@@ -41,11 +40,11 @@
  *
  * Only the calls of (d) and (j) use floating point, and only they depend on the
  * thread's floating-point environment. They need what a C program starts with:
- * binary64 rounded to nearest, subnormal numbers not flushed to zero, no
- * floating-point exception trapped, and an exact fmod, as glibc's is. After
- * fesetround(), or where flush-to-zero was switched on (as -ffast-math may do),
- * frequency, phase and angles can have other bits; their refusals stay. They may
- * raise the inexact flag, and those of (j) the invalid flag too where the day is NaN.
+ * binary64 rounded to nearest, subnormal numbers not flushed to zero, and no
+ * floating-point exception trapped. After fesetround(), or where flush-to-zero was
+ * switched on (as -ffast-math may do), frequency, phase and angles can have other
+ * bits; their refusals stay. They may raise the inexact flag, and those of (j) the
+ * invalid flag too where the day is NaN.
  * All other calls work in whole numbers and give the same answers in any environment.
  *
  * Words used below

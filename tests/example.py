@@ -20,7 +20,7 @@ def build(example, suffix="", flags=SANITIZED):
     os.makedirs(BUILD, exist_ok=True)
     program = os.path.join(BUILD, example + suffix)
     subprocess.run(["cc", "-std=c11", "-O2", "-Wall", "-Wextra", "-Werror", *flags, "-I", os.path.join(ROOT, "include"), "-o", program,
-                    os.path.join(ROOT, f"examples/{example}.c"), ARCHIVE, "-lm"], check=True)
+                    os.path.join(ROOT, f"examples/{example}.c"), ARCHIVE], check=True)
     return program
 
 
