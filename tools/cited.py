@@ -18,7 +18,7 @@ DOCUMENTS = ["PROMISES", "RULES", "DECISIONS", "WRONG_PROGRAMS", "WRONG_ROWS", "
 APART = {"WRONG_ROWS": ("rows/", "row_bytes/", "row_places/", "nutation/"), "WRONG_RESCUE": ("rescue/", "rescue_lines/"), "WRONG_TIDES": ("binary64/", "tide/", "schwiderski/"),
          "WRONG_COMPARE": ("files/", "compare/", "promises/compare_")}
 # words in backticks that are no names of ours: keywords, the C library's, the kit's, what the program writes, placeholders
-NO_NAMES = {"requires", "fmod", "must-fail", "RT_JOBS", "refused", "count", "NoX", "_"}
+NO_NAMES = {"requires", "match", "fmod", "rem", "must-fail", "RT_JOBS", "refused", "count", "NoX", "_", "returns", "returns-in-NoDay-clause-refusal"}
 # folders that are made or installed, and not kept
 MADE = ("target/", "build/", "share/")
 
