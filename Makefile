@@ -22,10 +22,10 @@ ARCHIVE = target/staticlib/libenfysgar.a
 PROGRAM = target/bin/run_day
 RESCUE = target/bin/rescue_records
 COMPARE = build/examples/compare_records
-CRATES = crates.txt $(shell find crates -name '*.rt' -o -name '*.antt')
+CRATES = crates.txt $(shell find crates -name out -prune -o \( -name '*.rt' -o -name '*.antt' \) -print)
 
 # what is installed of the source: the code and its definitions
-SOURCE = $(shell find crates -path '*/src/*.rt' -o -path '*/specs/*.antt')
+SOURCE = $(shell find crates -name out -prune -o \( -path '*/src/*.rt' -o -path '*/specs/*.antt' \) -print)
 DOC = $(DESTDIR)$(PREFIX)/share/doc/enfysgar
 
 C_FILES = $(wildcard include/*.h tests/*.c tests/*.h examples/*.c bench/*.c bench/*.h)
@@ -147,5 +147,5 @@ lint:
 	fi
 
 clean:
-	rm -rf build target
+	rm -rf build target crates/*/out
 	find . -name __pycache__ -prune -exec rm -rf {} +

@@ -35,9 +35,9 @@ class Tree:
         self.root = root
         self.defined = {}
         self.promised = {}
-        for path in sorted(root.glob("crates/**/*.antt")):
+        for path in sorted(p for p in root.glob("crates/**/*.antt") if "out" not in p.parts):
             self.defined[path.relative_to(root).as_posix()] = self.of_antt(path.read_text(encoding="utf-8"))
-        for path in sorted(root.glob("crates/**/*.rt")):
+        for path in sorted(p for p in root.glob("crates/**/*.rt") if "out" not in p.parts):
             self.defined[path.relative_to(root).as_posix()] = self.of_rt(path.read_text(encoding="utf-8"))
         header = (root / "include/enfysgar.h").read_text(encoding="utf-8")
         self.crates = set(re.findall(r"^(\w+)(?: staticlib)?:", (root / "crates.txt").read_text(encoding="utf-8"), re.M))
