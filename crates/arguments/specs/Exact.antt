@@ -47,7 +47,7 @@ turn = 3_600_000_000_000
 abbrev pub turn_parts : ℕ
 turn_parts = turn * century ^ 4
 
--- the five arguments at n, each over turnParts
+-- the five arguments at n, each over turn_parts
 abbrev pub exact_arguments : ℤ → List ℤ
 exact_arguments n = value (pos century) F1 n ∷ value (pos century) F2 n ∷ value (pos century) F3 n ∷ value (pos century) F4 n ∷ value (pos century) F5 n ∷ []
 
@@ -57,6 +57,6 @@ combination [] xs = + 0
 combination (k ∷ ks) [] = + 0
 combination (k ∷ ks) (x ∷ xs) = k *ℤ x +ℤ combination ks xs
 
--- the angle of the row r, counted from 0, at n: its combination, whole turns removed, over turnParts
+-- the angle of the row r, counted from 0, at n: its combination, whole turns removed, over turn_parts
 abbrev pub exact_row_angle : ℕ → ℤ → ℕ
 exact_row_angle r n = remainder (combination (get_or multipliers r []) (exact_arguments n)) turn_parts

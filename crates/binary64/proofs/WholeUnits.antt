@@ -3,11 +3,13 @@
 use mathlib.Core.Path.{◌≡◌, refl, sym, ap, subst, ◌∙◌}
 use Prim.Native.Nat.{ℕ, suc, ◌+◌, ◌-◌, ◌*◌, ◌/◌, ◌%◌, ◌^◌, ◌≤◌, ◌<◌}
 use mathlib.Core.Logic.{inl, inr}
-use native.Mathlib.Nat.{eq-zero-or-pos, zero-mul, le_trans, le_of_eq, lt_of_lt_of_le, mul_comm, mul_assoc, mul_left_comm, mul_right_comm, mul-one, mul-lt-mul_of_pos_right, mul-le-mul, mul-pos, add-mul, div-add-mod', mul-add-mod_self_right, mod-eq_of_lt, mod-eq-sub-mod, mod-lt, add-mod, pow-succ'}
+use native.Mathlib.Nat.{eq-zero-or-pos, zero-mul, le_trans, le_of_eq, lt_of_lt_of_le, mul_comm, mul_assoc, mul_left_comm, mul_right_comm, mul-one, mul-le-mul}
+use native.Mathlib.Nat.{mul-lt-mul_of_pos_right, mul-pos, add-mul, div-add-mod', mul-add-mod_self_right, mod-eq_of_lt, mod-eq-sub-mod, mod-lt, add-mod, pow-succ'}
 use native.Mathlib.Omega.{arith}
 use mathlib.Core.Bool.{Bool, true, false, not, cond, ◌&&◌, ◌||◌, beq, true≢false}
 use borrow.Author.Tests.{ne_eqb, eq-eqb, eqb-true, eqb-false, lt-leb}
 use lib.Dec.{T, eqb, leb, lit<}
+use lib.IntN.{pos}
 use lib.Pow.{pow-add, pow_pos, pow_mono}
 use lib.Ieee.{Float, nan, inf, fin, binary64, up, down, odd, unlike, round, neg, mul, rem, eq, of_int, of_bits, of_fields, to_bits, fits, is_nan}
 use lib.Ieee.Fits.{up_pos, down_pos}
@@ -45,33 +47,42 @@ high_field s j t small = go (eqb (suc j) 2047) refl
     go true e h = absurd (no_number s (eqb t 0) h)
     go false e h = (odd_sign 53 s (2 ^ 52 + t) j 1074, omega (arith, eqb-false (suc j) 2047 e))
 
-low_bits : (b : ℕ) → b / 2 ^ 52 % 2 ^ 11 ≡ 0 → HasValue (of_bits binary64 b) (leb (2 ^ 63) b) (b % 2 ^ 52 * 1) (2 ^ 1074)
+-- the sign, the exponent and the digits below the leading one
+abbrev sign : ℕ → Bool
+sign b = leb (2 ^ 63) b
+
+abbrev exponent : ℕ → ℕ
+exponent b = b / 2 ^ 52 % 2 ^ 11
+
+abbrev low : ℕ → ℕ
+low b = b % 2 ^ 52
+
+abbrev Low : (x : Float) (b : ℕ) → Type 0
+Low x b = HasValue x (sign b) (low b * 1) (2 ^ 1074)
+
+abbrev High : (x : Float) (b : ℕ) → Type 0
+High x b = HasValue x (sign b) ((2 ^ 52 + low b) * 2 ^ (exponent b - 1)) (2 ^ 1074) × (exponent b - 1 ≤ 2045)
+
+low_bits : (b : ℕ) → exponent b ≡ 0 → Low (of_bits binary64 b) b
 unfolding of_bits
 low_bits b h =
     let z : b % 2 ^ 63 / 2 ^ 52 ≡ 0 = omega arith in
-    subst (λ (x : ℕ). HasValue (of_fields binary64 (leb (2 ^ 63) b) x (b % 2 ^ 52)) (leb (2 ^ 63) b) (b % 2 ^ 52 * 1) (2 ^ 1074)) (sym z) (low_field (leb (2 ^ 63) b) (b % 2 ^ 52))
+    subst (λ (x : ℕ). Low (of_fields binary64 (sign b) x (low b)) b) (sym z) (low_field (sign b) (low b))
 
-high_bits : (b : ℕ) → 0 < b / 2 ^ 52 % 2 ^ 11 → float_is_finite (of_bits binary64 b) ≡ true
-    → HasValue (of_bits binary64 b) (leb (2 ^ 63) b) ((2 ^ 52 + b % 2 ^ 52) * 2 ^ (b / 2 ^ 52 % 2 ^ 11 - 1)) (2 ^ 1074) × (b / 2 ^ 52 % 2 ^ 11 - 1 ≤ 2045)
+high_bits : (b : ℕ) → 0 < exponent b → float_is_finite (of_bits binary64 b) ≡ true → High (of_bits binary64 b) b
 unfolding of_bits
 high_bits b h =
-    let s = leb (2 ^ 63) b in
-    let t = b % 2 ^ 52 in
-    let j = b / 2 ^ 52 % 2 ^ 11 - 1 in
-    let z : b % 2 ^ 63 / 2 ^ 52 ≡ suc j = omega arith in
-    subst (λ (x : ℕ). float_is_finite (of_fields binary64 s x t) ≡ true → HasValue (of_fields binary64 s x t) s ((2 ^ 52 + t) * 2 ^ j) (2 ^ 1074) × (j ≤ 2045)) (sym z) (high_field s j t (omega arith))
+    let z : b % 2 ^ 63 / 2 ^ 52 ≡ suc (exponent b - 1) = omega arith in
+    subst (λ (x : ℕ). float_is_finite (of_fields binary64 (sign b) x (low b)) ≡ true → High (of_fields binary64 (sign b) x (low b)) b) (sym z)
+    (high_field (sign b) (exponent b - 1) (low b) (omega arith))
 
-pub low_units : (x : Float) → fits binary64 x ≡ true → to_bits binary64 x / 2 ^ 52 % 2 ^ 11 ≡ 0 → HasValue x (leb (2 ^ 63) (to_bits binary64 x)) (to_bits binary64 x % 2 ^ 52 * 1) (2 ^ 1074)
-low_units x w h =
-    let b = to_bits binary64 x in
-    subst (λ (y : Float). HasValue y (leb (2 ^ 63) b) (b % 2 ^ 52 * 1) (2 ^ 1074)) (of_bits-to_bits binary64 x (subst T (sym w) tt)) (low_bits b h)
+pub low_units : (x : Float) → fits binary64 x ≡ true → exponent (to_bits binary64 x) ≡ 0 → Low x (to_bits binary64 x)
+low_units x w h = let b = to_bits binary64 x in subst (λ (y : Float). Low y b) (of_bits-to_bits binary64 x (subst T (sym w) tt)) (low_bits b h)
 
-pub high_units : (x : Float) → fits binary64 x ≡ true → float_is_finite x ≡ true → 0 < to_bits binary64 x / 2 ^ 52 % 2 ^ 11
-    → HasValue x (leb (2 ^ 63) (to_bits binary64 x)) ((2 ^ 52 + to_bits binary64 x % 2 ^ 52) * 2 ^ (to_bits binary64 x / 2 ^ 52 % 2 ^ 11 - 1)) (2 ^ 1074) × (to_bits binary64 x / 2 ^ 52 % 2 ^ 11 - 1 ≤ 2045)
+pub high_units : (x : Float) → fits binary64 x ≡ true → float_is_finite x ≡ true → 0 < exponent (to_bits binary64 x) → High x (to_bits binary64 x)
 high_units x w f h =
     let b = to_bits binary64 x in
-    subst (λ (y : Float). float_is_finite y ≡ true → HasValue y (leb (2 ^ 63) b) ((2 ^ 52 + b % 2 ^ 52) * 2 ^ (b / 2 ^ 52 % 2 ^ 11 - 1)) (2 ^ 1074) × (b / 2 ^ 52 % 2 ^ 11 - 1 ≤ 2045))
-    (of_bits-to_bits binary64 x (subst T (sym w) tt)) (high_bits b h) f
+    subst (λ (y : Float). float_is_finite y ≡ true → High y b) (of_bits-to_bits binary64 x (subst T (sym w) tt)) (high_bits b h) f
 
 -- ---- a number of so many units
 turned : (x : Float) (s : Bool) (a c : ℕ) → HasValue x s a c → HasValue (neg x) (not s) a c
@@ -113,27 +124,35 @@ epsilon : HasValue (of_bits binary64 0x3cb0000000000000) false 1 (2 ^ 52)
 unfolding of_bits
 epsilon = (refl, refl)
 
-small : (d : ℕ) → d < 2 ^ 53 → HasValue (mul binary64 (of_int binary64 (lib.IntN.pos d)) (of_bits binary64 0x3cb0000000000000)) false d (2 ^ 52)
+-- d of it
+abbrev fraction : ℕ → Float
+fraction d = mul binary64 (of_int binary64 (pos d)) (of_bits binary64 0x3cb0000000000000)
+
+fraction_value : (d : ℕ) → d < 2 ^ 53 → HasValue (fraction d) false d (2 ^ 52)
 unfolding of_int
-small d h =
-    subst (λ (x : Float). HasValue x false d (2 ^ 52)) (sym (product (round binary64 false d 1) (of_bits binary64 0x3cb0000000000000) false false d 1 1 (2 ^ 52) (lit< tt) (lit< tt) (round_whole binary64 false d (omega arith)) epsilon ∙ ap (λ (x : ℕ). round binary64 false x (2 ^ 52)) (mul-one d)))
+fraction_value d h =
+    subst (λ (x : Float). HasValue x false d (2 ^ 52))
+    (sym
+    (product (round binary64 false d 1) (of_bits binary64 0x3cb0000000000000) false false d 1 1 (2 ^ 52) (lit< tt) (lit< tt) (round_whole binary64 false d (omega arith)) epsilon
+    ∙ ap (λ (x : ℕ). round binary64 false x (2 ^ 52)) (mul-one d)))
     (round_exact binary64 false d (2 ^ 52) d 1022 (lit< tt) h (omega arith) (omega arith))
 
 pub scaled : (s : Bool) (d k : ℕ) (y : Float) → d < 2 ^ 53 → HasValue y s (2 ^ 52 * 2 ^ k) (2 ^ 1074)
-    → mul binary64 (mul binary64 (of_int binary64 (lib.IntN.pos d)) (of_bits binary64 0x3cb0000000000000)) y ≡ round binary64 s (d * 2 ^ k) (2 ^ 1074)
+    → mul binary64 (fraction d) y ≡ round binary64 s (d * 2 ^ k) (2 ^ 1074)
 scaled s d k y h v =
-    product (mul binary64 (of_int binary64 (lib.IntN.pos d)) (of_bits binary64 0x3cb0000000000000)) y false s d (2 ^ 52) (2 ^ 52 * 2 ^ k) (2 ^ 1074) (lit< tt) (pow_pos 1074) (small d h) v
-    ∙ sign s
+    product (fraction d) y false s d (2 ^ 52) (2 ^ 52 * 2 ^ k) (2 ^ 1074) (lit< tt) (pow_pos 1074) (fraction_value d h) v ∙ signed s
   where
     group : (d p q r : ℕ) → d * (q * p) * r ≡ d * p * (q * r)
     group d p q r = simp (mul_assoc, mul_left_comm)
 
     same : (t : Bool) → round binary64 t (d * (2 ^ 52 * 2 ^ k)) (2 ^ 52 * 2 ^ 1074) ≡ round binary64 t (d * 2 ^ k) (2 ^ 1074)
-    same t = round_same binary64 t (d * (2 ^ 52 * 2 ^ k)) (2 ^ 52 * 2 ^ 1074) (d * 2 ^ k) (2 ^ 1074) (mul-pos (pow_pos 52) (pow_pos 1074)) (pow_pos 1074) (group d (2 ^ k) (2 ^ 52) (2 ^ 1074))
+    same t =
+        round_same binary64 t (d * (2 ^ 52 * 2 ^ k)) (2 ^ 52 * 2 ^ 1074) (d * 2 ^ k) (2 ^ 1074) (mul-pos (pow_pos 52) (pow_pos 1074)) (pow_pos 1074)
+        (group d (2 ^ k) (2 ^ 52) (2 ^ 1074))
 
-    sign : (t : Bool) → round binary64 (unlike false t) (d * (2 ^ 52 * 2 ^ k)) (2 ^ 52 * 2 ^ 1074) ≡ round binary64 t (d * 2 ^ k) (2 ^ 1074)
-    sign true = same true
-    sign false = same false
+    signed : (t : Bool) → round binary64 (unlike false t) (d * (2 ^ 52 * 2 ^ k)) (2 ^ 52 * 2 ^ 1074) ≡ round binary64 t (d * 2 ^ k) (2 ^ 1074)
+    signed true = same true
+    signed false = same false
 
 -- ---- remainders of whole numbers
 pub mod_scale : (a b k : ℕ) → 0 < b → 0 < k → a * k % (b * k) ≡ a % b * k
@@ -173,7 +192,8 @@ rem_units (fin u m e) (fin v n d) s t a b c C B h k =
     let g = down e * down d in
     let G : 0 < g = mul-pos (down_pos e) (down_pos d) in
     let pc : p * c ≡ a * g = mul_right_comm (m * up e) (down d) c ∙ ap (λ (x : ℕ). x * down d) h.1 ∙ mul_assoc a (down e) (down d) in
-    let qc : q * c ≡ b * g = mul_right_comm (n * up d) (down e) c ∙ ap (λ (x : ℕ). x * down e) k.1 ∙ mul_assoc b (down d) (down e) ∙ ap (λ (x : ℕ). b * x) (mul_comm (down d) (down e)) in
+    let qc : q * c ≡ b * g =
+    mul_right_comm (n * up d) (down e) c ∙ ap (λ (x : ℕ). x * down e) k.1 ∙ mul_assoc b (down d) (down e) ∙ ap (λ (x : ℕ). b * x) (mul_comm (down d) (down e)) in
     let Q : 0 < q = first_pos q c (subst (λ (x : ℕ). 0 < x) (sym qc) (mul-pos B G)) in
     let N : 0 < n = first_pos n (up d) (first_pos (n * up d) (down e) Q) in
     subst (λ (z : Bool). cond z nan (round binary64 u (p % q) g) ≡ round binary64 s (a % b) c) (sym (ne_eqb n 0 (omega arith)))

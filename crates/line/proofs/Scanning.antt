@@ -1,4 +1,4 @@
--- A number, byte by byte: numberFrom is what the definition reads from a byte on, with the count and the value of the digits before it. A digit moves it
+-- A number, byte by byte: number_from is what the definition reads from a byte on, with the count and the value of the digits before it. A digit moves it
 -- one byte on, and every other byte, an eleventh digit and the end of the bytes decide it. Assumes nothing.
 use Prim.Native.Nat.{ℕ, suc, ◌+◌, ◌-◌, ◌*◌, ◌^◌, ◌<◌, ◌≤◌}
 use mathlib.Core.Path.{◌≡◌, refl}

@@ -36,7 +36,7 @@ angle_parts = 43021 * day_micros
 abbrev pub exact_angle : ℤ → ℕ
 exact_angle n = remainder (neg_ℤ (n *ℤ + 100)) angle_parts
 
--- ---- the offsets, over exactDen: ten times C cos - S sin, in nanoarcseconds
+-- ---- the offsets, over exact_den: ten times C cos - S sin, in nanoarcseconds
 
 -- of the amplitudes c and s, over `parts`, at the angle of n, which x stands for
 unfoldable pub exact_offset : ℤ → ℤ → ℕ → ℤ

@@ -53,7 +53,7 @@ pub thirty : (w : ClockWords) (ut1 lod rate : ℤ) (l : List ℕ) → l ≡ reco
 unfolding record_bytes
 thirty w ut1 lod rate l q = ap (λ (k : List ℕ). length (take record_length k)) q
 
--- the day number of an index below 2^31, -indexOffset or later, fits 32 bits
+-- the day number of an index below 2^31, -index_offset or later, fits 32 bits
 day_word : (i : ℕ) → i < 2 ^ 31 → SFits w32 (pos i -ℤ pos index_offset)
 day_word i h = by (ltb i index_offset) refl
   where

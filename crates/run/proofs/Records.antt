@@ -1,5 +1,5 @@
 -- The records of a run: what one record's call writes, the records one behind the other, and the buffer after them and between them. Each record is
--- thirty bytes, so k of them end where record k begins, and a call that is lent the rest adds one (front-more). Assumes nothing.
+-- thirty bytes, so k of them end where record k begins, and a call that is lent the rest adds one (front_more). Assumes nothing.
 use Prim.Native.Nat.{ℕ, zero, suc, ◌+◌, ◌-◌, ◌*◌, ◌≤◌, ◌<◌}
 use mathlib.Core.Path.{◌≡◌, refl, ap, sym, ◌∙◌}
 use mathlib.Core.List.{List, [], ◌++◌, append-nil}

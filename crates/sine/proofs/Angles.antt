@@ -70,7 +70,7 @@ unfolding signed_s sine_den
 S-moves Q e y z hy hz n = near_as (near_scale (pos Q) (series_moves (Q * u) (turn_num * e) (y *ℤ pos turn_num) (z *ℤ pos turn_num) (small y hy) (small z hz) angle)) (side y) (side z)
     (le_trans (bound Q slope_sum ((Q * u) ^ 22) turn_num e u (factorial 23) (50 ^ 23) (lit≤ tt)) (le_of_eq (ap (λ (k : ℕ). slope * e * k) (sym (den Q u (factorial 23))))))
   where
-    -- a fiftieth of turnDen
+    -- a fiftieth of turn_den
     u : ℕ
     u = 2 * 10 ^ 22
 

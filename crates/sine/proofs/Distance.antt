@@ -205,7 +205,7 @@ two_angles B Q F own e v x y hB hQ hF hy hx hv hxy =
 
 -- ---- the fact
 
--- v of 2^31 and n of D are within sineDistance + e / 64 of 2^31 parts
+-- v of 2^31 and n of D are within sine_distance + e / 64 of 2^31 parts
 abbrev pub SineNear : ℤ → ℤ → ℕ → ℕ → Type 0
 SineNear v n D e = Near (v *ℤ pos (64 * D)) (n *ℤ pos (64 * 2 ^ 31)) ((64 * sine_distance + e) * D)
 

@@ -147,7 +147,7 @@ series_near F r s t u c ds hF hr hs hm rs test q hq e he =
 
 -- ---- at ours
 
--- a quarter turn in radians is turnNum / (100 * quarterDen)
+-- a quarter turn in radians is turn_num / (100 * quarter_den)
 abbrev quarter_den : ℕ
 quarter_den = 4 * 10 ^ 22
 

@@ -3,14 +3,14 @@
 use Rattle.std.specs.Prelude.{cond, ℕ, ◌+◌, ◌*◌, ◌-◌, ◌/◌, ◌%◌, ◌^◌, leb, ℤ, pos, neg_ℤ}
 use Rattle.sine.specs.Series.{factorial, series}
 
--- a turn in radians: the fraction turnNum / turnDen
+-- a turn in radians: the fraction turn_num / turn_den
 abbrev pub turn_num : ℕ
 turn_num = 6283185307179586476925287
 
 abbrev pub turn_den : ℕ
 turn_den = 10 ^ 24
 
--- S: the first twelve terms of x - x^3/3! + x^5/5! - .. at x = A * turnNum / (Q * turnDen), over sineDen Q
+-- S: the first twelve terms of x - x^3/3! + x^5/5! - .. at x = A * turn_num / (Q * turn_den), over sine_den Q
 unfoldable pub S : ℕ → ℕ → ℤ
 S Q A = series (pos (A * turn_num)) (pos (Q * turn_den))
 

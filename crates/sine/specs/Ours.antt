@@ -26,7 +26,7 @@ one_part = 2 ^ 39 / quarter_parts
 abbrev pub unit_squares : ℕ
 unit_squares = quarter_parts * quarter_parts / 2 ^ 31
 
--- the sine of q parts of a quarter turn; q*q / unitSquares is the square of q / quarterParts in units of 2^-31
+-- the sine of q parts of a quarter turn; q*q / unit_squares is the square of q / quarter_parts in units of 2^-31
 unfoldable pub sine_quarter : ℕ → ℕ
 sine_quarter q = q * alternating (2 ^ 31) (q * q / unit_squares) first_constant other_constants / quarter_parts
 

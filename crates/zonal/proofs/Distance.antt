@@ -40,7 +40,7 @@ number_distance f j = suc (sum_distance f j / (64 * 2 ^ 31))
 unfoldable pub proved : Distances
 proved = distances (number_distance 10 0) (number_distance 1000 2) (number_distance 100 4)
 
--- a quarter of turnParts
+-- a quarter of turn_parts
 quarter : ℕ
 quarter = 900_000_000_000 * century ^ 4
 
