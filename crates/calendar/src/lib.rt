@@ -125,6 +125,7 @@ fn before(y: u64, m: u64) -> u64
 }
 
 // The index of an accepted date, or refusal 1, 2 or 3.
+#[tactic(auto, unfolding(crate::specs::Inner::date_acceptance))]
 pub fn accept_date(year: u64, month: u64, day: u64) -> Acceptance
     ensures { result ≡ date_acceptance year month day }
 {
@@ -205,6 +206,7 @@ pub fn date_of(day: i64) -> DateAnswer
 }
 
 // The microseconds since 0 h of an accepted time of day, in a minute whose last second is `last`, or refusal 4, 5, 6 or 7.
+#[tactic(auto, unfolding(crate::specs::Inner::time_acceptance))]
 pub fn accept_time(last: u64, hour: u64, minute: u64, second: u64, microsecond: u64) -> Acceptance
     requires { last ≤ 60 }
     ensures { result ≡ time_acceptance last hour minute second microsecond }

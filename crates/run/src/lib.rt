@@ -26,6 +26,7 @@ fn acceptance_refusal(a: Acceptance) -> u32
 }
 
 // The refusal of a run into a buffer of so many bytes, or 0.
+#[tactic(auto, unfolding(crate::specs::Run::run_refusal))]
 fn refusal(day: i64, micros: u64, count: u64, step: u64, size: usize) -> u32
     ensures { result ≡ run_refusal day micros count step size }
 {

@@ -13,7 +13,7 @@ use Rattle.calendar.specs.declared.InstantAnswer.TheVariants.{AtInstant, NoInsta
 use Rattle.utc.specs.Readings.{reading_index, reading_micros, reading_cases, AcceptedReading}
 use Rattle.utc.specs.Conversions.{tt_at, tt_of}
 use Rattle.utc.specs.PhaseInstants.{PhaseInstant, at_answer, at_phase}
-use Rattle.utc.specs.Inner.{parts_of, Together, phase_answer}
+use Rattle.utc.specs.Inner.{parts_of, Together, phase_by, phase_answer}
 use Rattle.utc.specs.declared.Reading.{Reading}
 use Rattle.utc.specs.declared.PhaseParts.{PhaseParts}
 use Rattle.utc.specs.declared.PhaseAnswer.{PhaseAnswer}
@@ -83,9 +83,17 @@ sixty_past_the_day p = sixty_micros p.utc (answered_held p.utc p.tt p.together).
 pub together_accepted : (x : PhaseParts) → Together x → IsAccepted x.tt.day x.tt.micros × (x.utc.micros < day_micros + second_micros)
 together_accepted x t = rw t.are ((parts_accepted t.at).2, utc_less t.at)
 
+-- the parts are those of the reading's instant for phases
+pub phase_is : (r : Reading) → at_phase NoPhase (λ p. AtPhase (parts_of p)) r ≡ phase_answer r
+unfolding phase_answer
+phase_is r = by (tt_of r) refl
+  where
+    by : (x : InstantAnswer) (e : tt_of r ≡ x) → at_answer NoPhase (λ p. AtPhase (parts_of p)) r x e ≡ phase_by r x
+    by (AtInstant t) e = refl
+    by (NoInstant n) e = refl
+
 -- a reading whose answer is given has parts that belong together
 pub answer_together : (r : Reading) (x : PhaseParts) → phase_answer r ≡ AtPhase x → Together x
-unfolding phase_answer
-answer_together r x =
+answer_together r x h =
     at_both (λ (a b : PhaseAnswer). a ≡ AtPhase x → Together x) NoPhase NoPhase (λ p. AtPhase (parts_of p)) (λ p. AtPhase (parts_of p)) r (λ n e. impossible (cc))
-    (λ p _ e. record { at = p; are = cc })
+    (λ p _ e. record { at = p; are = cc }) (phase_is r ∙ h)

@@ -4,12 +4,15 @@ use Rattle.instants.specs.Refusals.{refused_or}
 use Rattle.instants.specs.Limits.{days_covered}
 use Rattle.instants.specs.Moments.{moment}
 use Rattle.utc.specs.Readings.{reading_index, reading_micros, reading_cases, cover_cases}
-use Rattle.utc.specs.Conversions.{moment_cases, reading_on}
+use Rattle.utc.specs.Conversions.{moment_cases, reading_on, tt_of}
+use Rattle.instants.specs.declared.Instant.{Instant}
+use Rattle.calendar.specs.declared.InstantAnswer.{InstantAnswer}
+use Rattle.calendar.specs.declared.InstantAnswer.TheVariants.{AtInstant, NoInstant}
 use Rattle.utc.specs.declared.Reading.{Reading}
 use Rattle.utc.specs.declared.UtcTime.{UtcTime}
 use Rattle.utc.specs.declared.UtcAnswer.{UtcAnswer}
 use Rattle.utc.specs.declared.UtcAnswer.TheVariants.{AtUtc, NoUtc}
-use Rattle.utc.specs.PhaseInstants.{PhaseInstant, at_phase}
+use Rattle.utc.specs.PhaseInstants.{PhaseInstant}
 use Rattle.utc.specs.declared.PhaseParts.{PhaseParts}
 use Rattle.utc.specs.declared.PhaseAnswer.{PhaseAnswer}
 use Rattle.utc.specs.declared.PhaseAnswer.TheVariants.{AtPhase, NoPhase}
@@ -43,9 +46,13 @@ pub record Together (x : PhaseParts) : Type 0 where
   pub at : PhaseInstant
   pub are : x ≡ parts_of at
 
--- the parts of a reading's instant for phases, or its refusal
+-- the parts of a reading's instant for phases, or its refusal, by the answer of the conversion
+abbrev pub phase_by : Reading → InstantAnswer → PhaseAnswer
+phase_by r (AtInstant t) = AtPhase (record { tt = t; utc = utc_time (reading_index r) (reading_micros r) })
+phase_by r (NoInstant n) = NoPhase n
+
 unfoldable pub phase_answer : Reading → PhaseAnswer
-phase_answer r = at_phase NoPhase (λ p. AtPhase (parts_of p)) r
+phase_answer r = phase_by r (tt_of r)
 
 -- x is a moment of the TT day of index i
 pub record OnDay (i x : ℕ) : Type 0 where

@@ -5,18 +5,6 @@ use Rattle.calendar.specs.Dates.{date, date_index}
 use Rattle.calendar.specs.Inner.{date_acceptance}
 use Rattle.calendar.proofs.accept_date.Goals as goal
 
-pub returns-then-year : goal.returns-then-year
-unfolding date_acceptance
-returns-then-year c = simp c.if-year.true
-
-pub returns-then-month : goal.returns-then-month
-unfolding date_acceptance
-returns-then-month c = simp (c.if-year.false, c.if-month.true)
-
-pub returns-then-day-month_length : goal.returns-then-day-month_length
-unfolding date_acceptance
-returns-then-day-month_length c = simp (c.if-year.false, c.if-month.false, ← c.month_length.ensures.days, c.if-day-month_length.true)
-
 pub returns : goal.returns
 unfolding date_acceptance date_index
 returns c =

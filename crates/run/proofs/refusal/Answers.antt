@@ -71,14 +71,6 @@ module _ (d : ℤ) (m count step size : ℕ) (h : Counted count step) (a : IsAcc
 
 -- ---- the goals
 
-pub returns-then-count : goal.returns-then-count
-unfolding run_refusal
-returns-then-count c = simp c.if-count.true
-
-pub returns-then-step : goal.returns-then-step
-unfolding run_refusal
-returns-then-step c = simp (c.if-count.false, c.if-step.true)
-
 pub returns-then-start-ne0 : goal.returns-then-start-ne0
 returns-then-start-ne0 c =
     let s = says c.args.micros c.ranges.day c.accept.ensures c.acceptance_refusal-start.ensures in

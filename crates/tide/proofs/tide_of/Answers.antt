@@ -7,7 +7,7 @@ use Rattle.utc.specs.declared.Reading.{Reading}
 use Rattle.utc.specs.declared.PhaseParts.{PhaseParts}
 use Rattle.utc.specs.declared.PhaseAnswer.{PhaseAnswer}
 use Rattle.utc.specs.declared.PhaseAnswer.TheVariants.{AtPhase, NoPhase}
-use Rattle.utc.proofs.PhaseInstants.{at_both, answer_together}
+use Rattle.utc.proofs.PhaseInstants.{at_both, phase_is, answer_together}
 use Rattle.tide.specs.Tidal.{arguments_at, answer_of, tide_of}
 use Rattle.tide.specs.declared.Arguments.{Arguments}
 use Rattle.tide.specs.declared.Doodson.{Doodson}
@@ -18,17 +18,17 @@ use Rattle.tide.proofs.tide_of.Goals as goal
 module _ (r : Reading) (k : Doodson) where
   -- where the parts are given, the answer is that of their arguments
   answered : (x : PhaseParts) (a : Arguments) → ((p : PhaseInstant) → x ≡ parts_of p → a ≡ arguments_at p) → phase_answer r ≡ AtPhase x → answer_of a k ≡ tide_of r k
-  unfolding phase_answer tide_of
-  answered x a h =
+  unfolding tide_of
+  answered x a h i =
       at_both (λ (y : PhaseAnswer) (z : TideAnswer). y ≡ AtPhase x → answer_of a k ≡ z) NoPhase NoTide (λ p. AtPhase (parts_of p)) (λ p. answer_of (arguments_at p) k) r
-      (λ n e. impossible (cc)) (λ p _ e. ap (λ (a : Arguments). answer_of a k) (h p (cc)))
+      (λ n e. impossible (cc)) (λ p _ e. ap (λ (a : Arguments). answer_of a k) (h p (cc))) (phase_is r ∙ i)
 
   -- where a refusal is, it is handed on
   refused : (n : ℕ) → phase_answer r ≡ NoPhase n → NoTide n ≡ tide_of r k
-  unfolding phase_answer tide_of
-  refused n =
+  unfolding tide_of
+  refused n i =
       at_both (λ (y : PhaseAnswer) (z : TideAnswer). y ≡ NoPhase n → NoTide n ≡ z) NoPhase NoTide (λ p. AtPhase (parts_of p)) (λ p. answer_of (arguments_at p) k) r
-      (λ m e. ap NoTide (cc)) (λ p _ e. impossible (cc))
+      (λ m e. ap NoTide (cc)) (λ p _ e. impossible (cc)) (phase_is r ∙ i)
 
 pub arguments_at-requires : goal.arguments_at-requires
 arguments_at-requires c = answer_together _ _ (sym c.in-AtPhase.ensures)

@@ -14,7 +14,7 @@ use Rattle.utc.specs.declared.PhaseParts.{PhaseParts}
 use Rattle.utc.specs.declared.PhaseAnswer.{PhaseAnswer}
 use Rattle.utc.specs.declared.PhaseAnswer.TheVariants.{AtPhase, NoPhase}
 use Rattle.utc.proofs.Readings.{accepted_small}
-use Rattle.utc.proofs.PhaseInstants.{in_cases, tt_is}
+use Rattle.utc.proofs.PhaseInstants.{in_cases, tt_is, phase_is}
 use Rattle.utc.proofs.phase_parts.Goals as goal
 
 -- the parts of a time, and the match of the code
@@ -32,8 +32,8 @@ same r p e = ap (λ (i : Instant). AtPhase (parts i (utc_time (reading_index p.u
     ∙ ap (λ (r : Reading). AtPhase (parts (tt_at (reading_index r) (reading_micros r)) (utc_time (reading_index r) (reading_micros r)))) e
 
 matched : (r : Reading) → by_time (reading_acceptance r) ≡ phase_answer r
-unfolding reading_acceptance phase_answer
-matched r = handed_on NoUtc by_time (λ k. refl) (reading_cases r) _ ∙ sym (in_cases NoPhase (λ p. AtPhase (parts_of p)) r _ (same r))
+unfolding reading_acceptance
+matched r = handed_on NoUtc by_time (λ k. refl) (reading_cases r) _ ∙ (sym (in_cases NoPhase (λ p. AtPhase (parts_of p)) r _ (same r)) ∙ phase_is r)
 
 pub tt_at-requires-clause-index : goal.tt_at-requires-clause-index
 tt_at-requires-clause-index c = (accepted_small _ _ (sym c.in-AtUtc.ensures)).0
