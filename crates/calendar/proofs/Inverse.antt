@@ -10,10 +10,7 @@ use lib.IntN.{ℤ, pos, ◌+ℤ◌, nat_abs, +ℤ_assoc, +ℤ_comm}
 use borrow.Author.Tests.{le-ltb}
 use Rattle.instants.proofs.Impossible.{impossible}
 use Rattle.instants.proofs.FirstRefusal.{NoneApplies, none_answered, answered_none}
-use Rattle.instants.specs.declared.Acceptance.TheVariants.{Accepted, NotAccepted}
 use Rattle.calendar.specs.declared.Date.{Date}
-use Rattle.calendar.specs.declared.DayAnswer.TheVariants.{Day, NoDay}
-use Rattle.calendar.specs.declared.DateAnswer.TheVariants.{OnDate, NoDate}
 use Rattle.calendar.specs.Limits.{first_year, last_year}
 use Rattle.instants.specs.Instants.{outside, day_index, day_at_index}
 use Rattle.calendar.specs.Dates.{month_length, days_of_years, date_index, next, date_after, date, date_cases, day_of, day_cases, date_of}
@@ -23,6 +20,7 @@ use Rattle.instants.proofs.Signs.{index_up, day_natural, first_index, last_index
 use Rattle.instants.proofs.Accepted.{HasIndex, between, inside_index}
 use Rattle.instants.specs.Limits.{index_offset}
 use Rattle.calendar.proofs.Laws.{years_counted}
+use Rattle.std.specs.Prelude.{Ok, Err}
 
 -- A date is accepted: its year is in range, its month 1..12, and its day one of that month's.
 pub record AcceptedDate (y m d : ℕ) : Type 0 where
@@ -37,7 +35,7 @@ pub valid : (y m d : ℕ) → AcceptedDate y m d → Valid (date y m d)
 valid y m d a = record { late = omega (arith, a.from); one = a.one; twelve = a.twelve; first = a.first; last = a.last }
 
 -- an accepted date has its day number
-accepted_day : (y m d : ℕ) → AcceptedDate y m d → day_of y m d ≡ Day (day_at_index (date_index (date y m d)))
+accepted_day : (y m d : ℕ) → AcceptedDate y m d → day_of y m d ≡ Ok (day_at_index (date_index (date y m d)))
 unfolding day_of
 accepted_day y m d a =
     simp (le-ltb y first_year a.from, le-ltb last_year y a.to, le-ltb m 1 a.one, le-ltb 12 m a.twelve, le-ltb d 1 a.first, le-ltb (month_length y m) d a.last)
@@ -60,9 +58,9 @@ date_none y m d a = (
     both e f = rw (e, f) refl
 
 -- only an accepted date has a day number
-day_accepted : (y m d : ℕ) (z : ℤ) → day_of y m d ≡ Day z → AcceptedDate y m d
+day_accepted : (y m d : ℕ) (z : ℤ) → day_of y m d ≡ Ok z → AcceptedDate y m d
 unfolding day_of
-day_accepted y m d z e = none_date y m d (answered_none NoDay (date_cases y m d) _ (Day z) (λ n p. impossible (cc)) e).0
+day_accepted y m d z e = none_date y m d (answered_none Err (date_cases y m d) _ (Ok z) (λ n p. impossible (cc)) e).0
 
 -- the days before the first year, and before the year after the last
 years_first : days_of_years (first_year - 1600) ≡ first_index
@@ -92,11 +90,11 @@ pub record DateAt (y m d i : ℕ) : Type 0 where
   pub low : first_index ≤ i
   pub high : i ≤ last_index
 
-pub date_at : (y m d i : ℕ) → date_acceptance y m d ≡ Accepted i → DateAt y m d i
+pub date_at : (y m d i : ℕ) → date_acceptance y m d ≡ Ok i → DateAt y m d i
 unfolding date_acceptance
 date_at y m d i e =
-    let r = answered_none NotAccepted (date_cases y m d) _ (Accepted i) (λ n p. impossible (cc)) e in
-    let g : Accepted (date_index (date y m d)) ≡ Accepted i = r.1 in
+    let r = answered_none Err (date_cases y m d) _ (Ok i) (λ n p. impossible (cc)) e in
+    let g : Ok (date_index (date y m d)) ≡ Ok i = r.1 in
     let f : date_index (date y m d) ≡ i = cc in
     let a : AcceptedDate y m d = none_date y m d r.0 in
     let b = index_range y m d a in
@@ -116,21 +114,21 @@ unfolding day_index
 number_index n h = let b : n - index_offset + index_offset ≡ n = omega arith in rw (number_pos n h) b
 
 -- PROMISE. The date of a date's day number is that date.
-pub there_and_back : (y m d : ℕ) (z : ℤ) → day_of y m d ≡ Day z → date_of z ≡ OnDate (date y m d)
+pub there_and_back : (y m d : ℕ) (z : ℤ) → day_of y m d ≡ Ok z → date_of z ≡ Ok (date y m d)
 unfolding date_of
 there_and_back y m d z e =
     let a : AcceptedDate y m d = day_accepted y m d z e in
     let r : (first_index ≤ date_index (date y m d)) × (date_index (date y m d) ≤ last_index) = index_range y m d a in
-    let f : Day z ≡ Day (day_at_index (date_index (date y m d))) = sym e ∙ accepted_day y m d a in
+    let f : Ok z ≡ Ok (day_at_index (date_index (date y m d))) = sym e ∙ accepted_day y m d a in
     let g : z ≡ day_at_index (date_index (date y m d)) = cc in
-    rw g (simp (number_inside (date_index (date y m d)) r.0 r.1, number_index (date_index (date y m d)) r.0) (ap OnDate (after_index (date y m d) (valid y m d a))))
+    rw g (simp (number_inside (date_index (date y m d)) r.0 r.1, number_index (date_index (date y m d)) r.0) (ap Ok (after_index (date y m d) (valid y m d a))))
 
 -- a day number with a date is in range
-pub date_range : (z : ℤ) (t : Date) → date_of z ≡ OnDate t → (outside z ≡ false) × (t ≡ date_after (day_index z))
+pub date_range : (z : ℤ) (t : Date) → date_of z ≡ Ok t → (outside z ≡ false) × (t ≡ date_after (day_index z))
 unfolding date_of
 date_range z t e =
-    let r = answered_none NoDate (day_cases z) _ (OnDate t) (λ n p. impossible (cc)) e in
-    let g : OnDate (date_after (day_index z)) ≡ OnDate t = r.1 in
+    let r = answered_none Err (day_cases z) _ (Ok t) (λ n p. impossible (cc)) e in
+    let g : Ok (date_after (day_index z)) ≡ Ok t = r.1 in
     (r.0.0, cc)
 
 -- a date whose index is in range is accepted
@@ -146,7 +144,7 @@ in_range t v h k = record { from = from (dec_le first_year t.year); to = to (dec
     to (no p) = omega (arith, p, index_low t, years_from (suc last_year) t.year (omega arith) (omega (arith, p)), years_end)
 
 -- PROMISE. The day number of a day number's date is that day number.
-pub back_and_there : (z : ℤ) (t : Date) → date_of z ≡ OnDate t → day_of t.year t.month t.day ≡ Day z
+pub back_and_there : (z : ℤ) (t : Date) → date_of z ≡ Ok t → day_of t.year t.month t.day ≡ Ok z
 unfolding day_at_index
 back_and_there z t e =
     let r : (outside z ≡ false) × (t ≡ date_after (day_index z)) = date_range z t e in
@@ -155,12 +153,12 @@ back_and_there z t e =
     let v : Valid t = subst Valid (sym r.1) f.valid in
     let x : date_index t ≡ day_index z = ap date_index r.1 ∙ f.index in
     let n : day_at_index (date_index t) ≡ z = ap day_at_index x ∙ sym h.is in
-    accepted_day t.year t.month t.day (in_range t v (omega (arith, h.low, x)) (omega (arith, h.high, x))) ∙ ap Day n
+    accepted_day t.year t.month t.day (in_range t v (omega (arith, h.low, x)) (omega (arith, h.high, x))) ∙ ap Ok n
 
 -- PROMISE. Every accepted day number has a date.
-pub has_date : (z : ℤ) → outside z ≡ false → date_of z ≡ OnDate (date_after (day_index z))
+pub has_date : (z : ℤ) → outside z ≡ false → date_of z ≡ Ok (date_after (day_index z))
 unfolding date_of
-has_date z o = none_answered NoDate (day_cases z) _ (o, tt)
+has_date z o = none_answered Err (day_cases z) _ (o, tt)
 
 next_index : (z : ℤ) → HasIndex z (day_index z) → day_index (z +ℤ pos 1) ≡ suc (day_index z)
 unfolding day_index
@@ -171,9 +169,9 @@ next_index z h =
     ap nat_abs e ∙ add-one (day_index z)
 
 -- PROMISE. The date of the next day number is the next date, month and year ends included.
-pub next_date : (z : ℤ) (t : Date) → date_of z ≡ OnDate t → outside (z +ℤ pos 1) ≡ false → date_of (z +ℤ pos 1) ≡ OnDate (next t)
+pub next_date : (z : ℤ) (t : Date) → date_of z ≡ Ok t → outside (z +ℤ pos 1) ≡ false → date_of (z +ℤ pos 1) ≡ Ok (next t)
 unfolding date_after
 next_date z t e o =
     let r : (outside z ≡ false) × (t ≡ date_after (day_index z)) = date_range z t e in
     let s : day_index (z +ℤ pos 1) ≡ suc (day_index z) = next_index z (inside_index z r.0) in
-    has_date (z +ℤ pos 1) o ∙ ap OnDate (ap date_after s ∙ ap next (sym r.1))
+    has_date (z +ℤ pos 1) o ∙ ap Ok (ap date_after s ∙ ap next (sym r.1))

@@ -1,13 +1,11 @@
 -- Service (a): Gregorian dates and day numbers. Leap years, the lengths of the months, and days counted from 1600-01-01.
-use Rattle.std.specs.Prelude.{ℕ, zero, suc, ◌+◌, ◌-◌, ◌%◌, Bool, cond, not, ◌&&◌, ◌||◌, List, [], ◌∷◌, eqb, ltb, ℤ, pos, take, get_or}
+use Rattle.std.specs.Prelude.{ℕ, zero, suc, ◌+◌, ◌-◌, ◌%◌, Bool, cond, not, ◌&&◌, ◌||◌, List, [], ◌∷◌, eqb, ltb, ℤ, pos, take, get_or, Result, Ok, Err}
 use Rattle.calendar.specs.Limits.{first_year, last_year}
-use Rattle.instants.specs.Refusals.{Case, case, refused_or}
+use Rattle.instants.specs.Refusals.{Case, case, refused_or, refusal_of}
 use Rattle.instants.specs.Instants.{outside, day_index, day_at_index}
 use Rattle.calendar.specs.declared.Date.{Date}
-use Rattle.calendar.specs.declared.DayAnswer.{DayAnswer}
-use Rattle.calendar.specs.declared.DayAnswer.TheVariants.{Day, NoDay}
-use Rattle.calendar.specs.declared.DateAnswer.{DateAnswer}
-use Rattle.calendar.specs.declared.DateAnswer.TheVariants.{OnDate, NoDate}
+use Rattle.instants.specs.declared.refusal.Refusal.{Refusal}
+use Rattle.instants.specs.declared.refusal.Refusal.TheVariants.{Year, Month, DayOfMonth, Day}
 
 -- the date of a year, a month and a day
 abbrev pub date : ℕ → ℕ → ℕ → Date
@@ -62,58 +60,56 @@ date_after (suc n) = next (date_after n)
 -- the refusals of a date
 abbrev pub date_cases : (y m d : ℕ) → List Case
 date_cases y m d =
-    case 1 (ltb y first_year || ltb last_year y)
-    ∷ case 2 (ltb m 1 || ltb 12 m)
-    ∷ case 3 (ltb d 1 || ltb (month_length y m) d)
+    case Year (ltb y first_year || ltb last_year y)
+    ∷ case Month (ltb m 1 || ltb 12 m)
+    ∷ case DayOfMonth (ltb d 1 || ltb (month_length y m) d)
     ∷ []
 
 -- a date's day number, or its refusal
-unfoldable pub day_of : (y m d : ℕ) → DayAnswer
-day_of y m d = refused_or NoDay (date_cases y m d) (Day (day_at_index (date_index (date y m d))))
+unfoldable pub day_of : (y m d : ℕ) → Result ℤ Refusal
+day_of y m d = refused_or Err (date_cases y m d) (Ok (day_at_index (date_index (date y m d))))
 
 -- the refusal of a day number
 abbrev pub day_cases : ℤ → List Case
-day_cases z = case 8 (outside z) ∷ []
+day_cases z = case Day (outside z) ∷ []
 
 -- a day number's date, or its refusal
-unfoldable pub date_of : ℤ → DateAnswer
-date_of z = refused_or NoDate (day_cases z) (OnDate (date_after (day_index z)))
+unfoldable pub date_of : ℤ → Result Date Refusal
+date_of z = refused_or Err (day_cases z) (Ok (date_after (day_index z)))
 
 -- the numbers of an answer, or z where it is a refusal: what the call of the whole answer leaves where z was
-abbrev pub day_number_or : ℤ → DayAnswer → ℤ
-day_number_or z (Day d) = d
-day_number_or z (NoDay n) = z
+abbrev pub day_number_or : ℤ → Result ℤ Refusal → ℤ
+day_number_or z (Ok d) = d
+day_number_or z (Err n) = z
 
-abbrev pub year_or : ℕ → DateAnswer → ℕ
-year_or z (OnDate t) = t.year
-year_or z (NoDate n) = z
+abbrev pub year_or : ℕ → Result Date Refusal → ℕ
+year_or z (Ok t) = t.year
+year_or z (Err n) = z
 
-abbrev pub month_or : ℕ → DateAnswer → ℕ
-month_or z (OnDate t) = t.month
-month_or z (NoDate n) = z
+abbrev pub month_or : ℕ → Result Date Refusal → ℕ
+month_or z (Ok t) = t.month
+month_or z (Err n) = z
 
-abbrev pub day_of_month_or : ℕ → DateAnswer → ℕ
-day_of_month_or z (OnDate t) = t.day
-day_of_month_or z (NoDate n) = z
+abbrev pub day_of_month_or : ℕ → Result Date Refusal → ℕ
+day_of_month_or z (Ok t) = t.day
+day_of_month_or z (Err n) = z
 
 -- what the call of one number gives: 0 beside a refusal
-abbrev pub day_number_of : DayAnswer → ℤ
+abbrev pub day_number_of : Result ℤ Refusal → ℤ
 day_number_of = day_number_or (pos 0)
 
-abbrev pub year_of : DateAnswer → ℕ
+abbrev pub year_of : Result Date Refusal → ℕ
 year_of = year_or 0
 
-abbrev pub month_of : DateAnswer → ℕ
+abbrev pub month_of : Result Date Refusal → ℕ
 month_of = month_or 0
 
-abbrev pub day_of_month_of : DateAnswer → ℕ
+abbrev pub day_of_month_of : Result Date Refusal → ℕ
 day_of_month_of = day_of_month_or 0
 
 -- the refusal number, 0 for none
-abbrev pub date_refusal_of : DayAnswer → ℕ
-date_refusal_of (Day d) = 0
-date_refusal_of (NoDay n) = n
+abbrev pub date_refusal_of : Result ℤ Refusal → ℕ
+date_refusal_of = refusal_of
 
-abbrev pub day_refusal_of : DateAnswer → ℕ
-day_refusal_of (OnDate t) = 0
-day_refusal_of (NoDate n) = n
+abbrev pub day_refusal_of : Result Date Refusal → ℕ
+day_refusal_of = refusal_of

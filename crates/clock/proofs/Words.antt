@@ -15,10 +15,10 @@ use Rattle.instants.proofs.Signs.{index_up}
 use Rattle.instants.proofs.FirstRefusal.{none_both, answered_none}
 use Rattle.instants.proofs.Accepted.{AcceptedAt, accepted_at, none_accepted, accepted, answered_too}
 use Rattle.clock.specs.declared.ClockWords.{ClockWords}
-use Rattle.clock.specs.declared.SplitAnswer.TheVariants.{Split, NoSplit}
-use Rattle.clock.specs.declared.JoinAnswer.TheVariants.{Joined, NoJoin}
 use Rattle.clock.specs.Words.{mark_unit, mark, time_word, words, split_of, mark_cases, join_cases, join_of}
 use Rattle.clock.proofs.Mark.{mark_index}
+use Rattle.std.specs.Prelude.{Ok, Err}
+use Rattle.instants.specs.declared.refusal.Refusal.TheVariants.{WordsDisagree}
 
 low_part : (m k : ℕ) → m < day_micros → (m + k * mark_unit) % mark_unit ≡ m
 low_part m k h = omega arith
@@ -31,17 +31,17 @@ pub record WasSplit (d : ℤ) (m : ℕ) (w : ClockWords) : Type 0 where
   pub accepted : AcceptedAt d m (day_index d)
   pub is : w ≡ words d (time_word d m)
 
-pub was_split : (d : ℤ) (m : ℕ) (w : ClockWords) → split_of d m ≡ Split w → WasSplit d m w
+pub was_split : (d : ℤ) (m : ℕ) (w : ClockWords) → split_of d m ≡ Ok w → WasSplit d m w
 unfolding split_of
 was_split d m w e =
-    let r = answered_none NoSplit (instant_cases d m) (Split (words d (time_word d m))) (Split w) (λ n p. impossible (cc)) e in
-    let g : Split (words d (time_word d m)) ≡ Split w = r.1 in
+    let r = answered_none Err (instant_cases d m) (Ok (words d (time_word d m))) (Ok w) (λ n p. impossible (cc)) e in
+    let g : Ok (words d (time_word d m)) ≡ Ok w = r.1 in
     record { accepted = none_accepted d m r.0; is = cc }
 
 -- PROMISE. An accepted instant is split.
-pub split_accepted : (d : ℤ) (m : ℕ) → IsAccepted d m → split_of d m ≡ Split (words d (time_word d m))
+pub split_accepted : (d : ℤ) (m : ℕ) → IsAccepted d m → split_of d m ≡ Ok (words d (time_word d m))
 unfolding split_of
-split_accepted d m a = sym (answered_too NoSplit _ d m a)
+split_accepted d m a = sym (answered_too Err _ d m a)
 
 -- what it means that two words were joined
 record WasJoined (d : ℤ) (t : ℕ) (i : Instant) : Type 0 where
@@ -49,28 +49,28 @@ record WasJoined (d : ℤ) (t : ℕ) (i : Instant) : Type 0 where
   marked : t / mark_unit ≡ mark d
   is : i ≡ instant d (t % mark_unit)
 
-was_joined : (d : ℤ) (t : ℕ) (i : Instant) → join_of d t ≡ Joined i → WasJoined d t i
+was_joined : (d : ℤ) (t : ℕ) (i : Instant) → join_of d t ≡ Ok i → WasJoined d t i
 unfolding join_of
 was_joined d t i e =
-    let r = answered_none NoJoin (join_cases d t) (Joined (instant d (t % mark_unit))) (Joined i) (λ n p. impossible (cc)) e in
-    let g : Joined (instant d (t % mark_unit)) ≡ Joined i = r.1 in
+    let r = answered_none Err (join_cases d t) (Ok (instant d (t % mark_unit))) (Ok i) (λ n p. impossible (cc)) e in
+    let g : Ok (instant d (t % mark_unit)) ≡ Ok i = r.1 in
     let n = none_both (instant_cases d (t % mark_unit)) (mark_cases d t) r.0 in
     record { accepted = none_accepted d (t % mark_unit) n.0; marked = eqb-true _ _ (not-false _ n.1.0); is = cc }
 
 -- PROMISE. Splitting an accepted instant and joining the words gives the instant back.
-pub split_then_join : (d : ℤ) (m : ℕ) → IsAccepted d m → join_of d (time_word d m) ≡ Joined (instant d m)
+pub split_then_join : (d : ℤ) (m : ℕ) → IsAccepted d m → join_of d (time_word d m) ≡ Ok (instant d m)
 unfolding join_of
 split_then_join d m a =
     let k : AcceptedAt d m (day_index d) = accepted_at d m (day_index d) a in
     simp (low_part m (mark d) k.less, high_part m (mark d) k.less, k.inside, k.within, eq-eqb (mark d) (mark d) refl)
 
 -- words that are joined are those that their instant is split into
-pub join_then_split : (d : ℤ) (t : ℕ) (i : Instant) → join_of d t ≡ Joined i → split_of i.day i.micros ≡ Split (words d t)
+pub join_then_split : (d : ℤ) (t : ℕ) (i : Instant) → join_of d t ≡ Ok i → split_of i.day i.micros ≡ Ok (words d t)
 join_then_split d t i e =
     let j : WasJoined d t i = was_joined d t i e in
     let w : time_word d (t % mark_unit) ≡ t = omega (arith, j.marked) in
-    let s : split_of d (t % mark_unit) ≡ Split (words d (time_word d (t % mark_unit))) = split_accepted d (t % mark_unit) (accepted d (t % mark_unit) j.accepted.inside j.accepted.less) in
-    rw j.is (s ∙ ap (λ (k : ℕ). Split (words d k)) w)
+    let s : split_of d (t % mark_unit) ≡ Ok (words d (time_word d (t % mark_unit))) = split_accepted d (t % mark_unit) (accepted d (t % mark_unit) j.accepted.inside j.accepted.less) in
+    rw j.is (s ∙ ap (λ (k : ℕ). Ok (words d k)) w)
 
 -- ---- two moments whose day numbers differ by less than eight
 
@@ -99,8 +99,8 @@ same_mark d e i (suc j) l p q n m =
 
 -- what joining the day word of the day d with the time word of the moment m of the day e gives
 pub record JoinedExactly (d e : ℤ) (m : ℕ) : Type 0 where
-  pub same : d ≡ e → join_of d (time_word e m) ≡ Joined (instant e m)
-  pub other : (d ≡ e → ⊥) → join_of d (time_word e m) ≡ NoJoin 10
+  pub same : d ≡ e → join_of d (time_word e m) ≡ Ok (instant e m)
+  pub other : (d ≡ e → ⊥) → join_of d (time_word e m) ≡ Err WordsDisagree
 
 -- PROMISE. The day word of one accepted moment and the time word of another, whose day numbers differ by less than eight, are joined exactly when
 -- both moments are of one day, and then give the moment of the time word. Otherwise they are refused by number 10.
@@ -110,7 +110,7 @@ joined_exactly d e k m a b n =
     let p : AcceptedAt d k (day_index d) = accepted_at d k (day_index d) a in
     let q : AcceptedAt e m (day_index e) = accepted_at e m (day_index e) b in
     record {
-      same = λ s. subst (λ (x : ℤ). join_of x (time_word e m) ≡ Joined (instant e m)) (sym s) (split_then_join e m b);
+      same = λ s. subst (λ (x : ℤ). join_of x (time_word e m) ≡ Ok (instant e m)) (sym s) (split_then_join e m b);
       other = λ x.
           simp (
             low_part m (mark e) q.less,

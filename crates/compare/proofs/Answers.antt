@@ -17,19 +17,19 @@ use Rattle.files.specs.Files.{FileAnswer, file_cases, wrong_length}
 use Rattle.files.specs.Inner.{sound}
 use Rattle.files.proofs.Refused.{none_applies, applies_none, unrefused, file_is, file_short, records_few}
 use Rattle.compare.specs.declared.Entry.{Entry}
-use Rattle.compare.specs.declared.Count.TheVariants.{Entries, NoCount}
-use Rattle.compare.specs.declared.CompareAnswer.TheVariants.{Compared, NoComparison}
 use Rattle.compare.specs.Walk.{walk}
 use Rattle.compare.specs.Compare.{records_of, entries_of, entry_length, list_bytes, compare_cases, compare_of, list_after}
 use Rattle.compare.specs.Inner.{records_from, count_of, files_refusal, Fits}
 use Rattle.compare.proofs.Walks.{walk_few}
+use Rattle.std.specs.Prelude.{Ok, Err, Some, None}
+use Rattle.instants.specs.declared.refusal.Refusal.TheVariants.{BufferShort}
 
 -- ---- two files
 
 module _ (s t : List ℕ) where
   -- the refusal of the list, behind those of the files
   room : ℕ → List Case
-  room n = case 12 (ltb n (entry_length * length (entries_of s t))) ∷ []
+  room n = case BufferShort (ltb n (entry_length * length (entries_of s t))) ∷ []
 
   -- without a refusal of either none applies
   pub files_unrefused : files_refusal s t ≡ 0 → NoneApplies (file_cases s) × NoneApplies (file_cases t)
@@ -44,11 +44,11 @@ module _ (s t : List ℕ) where
       by (yes y) = let a = unrefused s y in (a, unrefused t (sym (none_answered (λ n. n) (file_cases s) _ a) ∙ (sym split ∙ z)))
 
   -- with one the comparison has it
-  pub refused_files : (n : ℕ) → (files_refusal s t ≡ 0 → ⊥) → NoComparison (files_refusal s t) ≡ compare_of s t n
+  pub refused_files : (n : ℕ) → (files_refusal s t ≡ 0 → ⊥) → Err (files_refusal s t) ≡ compare_of s t n
   unfolding files_refusal compare_of room
   refused_files n h =
-      sym (ap (λ (cs : List Case). refused_or NoComparison cs (Compared (length (entries_of s t)))) (sym (append_assoc (file_cases s) (file_cases t) (room n)))
-      ∙ (refused_append NoComparison (file_cases s ++ file_cases t) (room n) _ ∙ refused_first NoComparison (file_cases s ++ file_cases t) _ h))
+      sym (ap (λ (cs : List Case). refused_or Err cs (Ok (length (entries_of s t)))) (sym (append_assoc (file_cases s) (file_cases t) (room n)))
+      ∙ (refused_append Err (file_cases s ++ file_cases t) (room n) _ ∙ refused_first Err (file_cases s ++ file_cases t) _ h))
 
   -- a refusal of 0 says that none applies
   pub compared_none : (n : ℕ) → first_refusal (compare_cases s t n) ≡ 0 → NoneApplies (compare_cases s t n)
@@ -78,12 +78,12 @@ module _ (s t : List ℕ) where
       let n = files_unrefused z in
       true≢false (sym e ∙ ap₂ ◌||◌ (applies_none s n.0).0 (applies_none t n.1).0)
 
-  pub count_refused : count_of s t ≡ NoCount → files_refusal s t ≡ 0 → ⊥
+  pub count_refused : count_of s t ≡ None → files_refusal s t ≡ 0 → ⊥
   unfolding count_of
   count_refused e z =
       let n = files_unrefused z in
-      let k = ap₂ (λ (a b : Bool). cond (a && b) (Entries (length (walk (records_from s 0) (records_from t 0)))) NoCount) (applies_none s n.0).1 (applies_none t n.1).1 in
-      let v : Entries (length (walk (records_from s 0) (records_from t 0))) ≡ NoCount = sym k ∙ e in
+      let k = ap₂ (λ (a b : Bool). cond (a && b) (Some (length (walk (records_from s 0) (records_from t 0)))) None) (applies_none s n.0).1 (applies_none t n.1).1 in
+      let v : Some (length (walk (records_from s 0) (records_from t 0))) ≡ None = sym k ∙ e in
       impossible (cc)
 
   -- the entries of two files that are not refused
@@ -97,30 +97,30 @@ module _ (s t : List ℕ) where
     entries_few = omega (arith, walk_few (records_from s 0) (records_from t 0), records_few s, records_few t, file_short s a, file_short t b)
 
     -- so the list decides
-    accepted : (n : ℕ) → compare_of s t n ≡ refused_or NoComparison (room n) (Compared (length (entries_of s t)))
+    accepted : (n : ℕ) → compare_of s t n ≡ refused_or Err (room n) (Ok (length (entries_of s t)))
     unfolding compare_of room
     accepted n =
-        refused_append NoComparison (file_cases s) (file_cases t ++ room n) _
-        ∙ (none_answered NoComparison (file_cases s) _ a
-        ∙ (refused_append NoComparison (file_cases t) (room n) _ ∙ none_answered NoComparison (file_cases t) _ b))
+        refused_append Err (file_cases s) (file_cases t ++ room n) _
+        ∙ (none_answered Err (file_cases s) _ a
+        ∙ (refused_append Err (file_cases t) (room n) _ ∙ none_answered Err (file_cases t) _ b))
 
-    pub too_short : (n : ℕ) → n < entry_length * length (walk (records_from s 0) (records_from t 0)) → NoComparison 12 ≡ compare_of s t n
+    pub too_short : (n : ℕ) → n < entry_length * length (walk (records_from s 0) (records_from t 0)) → Err BufferShort ≡ compare_of s t n
     unfolding room
     too_short n h = sym (accepted n ∙ rw (entries_are, lt-ltb n (entry_length * length (walk (records_from s 0) (records_from t 0))) h) refl)
 
-    pub long_enough : (n : ℕ) → entry_length * length (walk (records_from s 0) (records_from t 0)) ≤ n → Compared (length (walk (records_from s 0) (records_from t 0))) ≡ compare_of s t n
+    pub long_enough : (n : ℕ) → entry_length * length (walk (records_from s 0) (records_from t 0)) ≤ n → Ok (length (walk (records_from s 0) (records_from t 0))) ≡ compare_of s t n
     unfolding room
     long_enough n h = sym (accepted n ∙ rw (entries_are, le-ltb n (entry_length * length (walk (records_from s 0) (records_from t 0))) h) refl)
 
   -- ---- the code's count
 
   -- entries that were counted in files of the right lengths
-  module _ (k : ℕ) (w : (wrong_length (length s) || wrong_length (length t)) ≡ false) (e : count_of s t ≡ Entries k) where
+  module _ (k : ℕ) (w : (wrong_length (length s) || wrong_length (length t)) ≡ false) (e : count_of s t ≡ Some k) where
     counted : ((sound s ≡ true) × (sound t ≡ true)) × (k ≡ length (walk (records_from s 0) (records_from t 0)))
     unfolding count_of
     counted = by (sound s) (sound t) e
       where
-        by : (x y : Bool) → cond (x && y) (Entries (length (walk (records_from s 0) (records_from t 0)))) NoCount ≡ Entries k
+        by : (x y : Bool) → cond (x && y) (Some (length (walk (records_from s 0) (records_from t 0)))) None ≡ Some k
             → ((x ≡ true) × (y ≡ true)) × (k ≡ length (walk (records_from s 0) (records_from t 0)))
         by true true e = ((refl, refl), cc)
         by true false e = impossible (cc)
@@ -140,27 +140,27 @@ module _ (s t : List ℕ) where
 
   -- ---- an answer that was given
 
-  module _ (n k : ℕ) (e : compare_of s t n ≡ Compared k) where
-    none : NoneApplies (compare_cases s t n) × (Compared (length (entries_of s t)) ≡ Compared k)
+  module _ (n k : ℕ) (e : compare_of s t n ≡ Ok k) where
+    none : NoneApplies (compare_cases s t n) × (Ok (length (entries_of s t)) ≡ Ok k)
     unfolding compare_of
-    none = answered_none NoComparison (compare_cases s t n) (Compared (length (entries_of s t))) (Compared k) (λ m p. impossible (cc)) e
+    none = answered_none Err (compare_cases s t n) (Ok (length (entries_of s t))) (Ok k) (λ m p. impossible (cc)) e
 
-    rest : NoneApplies (file_cases s) × NoneApplies (file_cases t ++ case 12 (ltb n (entry_length * length (entries_of s t))) ∷ [])
+    rest : NoneApplies (file_cases s) × NoneApplies (file_cases t ++ case BufferShort (ltb n (entry_length * length (entries_of s t))) ∷ [])
     rest = none_both (file_cases s) _ none.0
 
     pub given_first : NoneApplies (file_cases s)
     given_first = rest.0
 
     pub given_second : NoneApplies (file_cases t)
-    given_second = (none_both (file_cases t) (case 12 (ltb n (entry_length * length (entries_of s t))) ∷ []) rest.1).0
+    given_second = (none_both (file_cases t) (case BufferShort (ltb n (entry_length * length (entries_of s t))) ∷ []) rest.1).0
 
     pub given_room : entry_length * length (entries_of s t) ≤ n
     given_room =
-        let r = (none_both (file_cases t) (case 12 (ltb n (entry_length * length (entries_of s t))) ∷ []) rest.1).1 in
+        let r = (none_both (file_cases t) (case BufferShort (ltb n (entry_length * length (entries_of s t))) ∷ []) rest.1).1 in
         ltb-false n (entry_length * length (entries_of s t)) r.0
 
     pub given_number : length (entries_of s t) ≡ k
-    given_number = let g : Compared (length (entries_of s t)) ≡ Compared k = none.1 in cc
+    given_number = let g : Ok (length (entries_of s t)) ≡ Ok k = none.1 in cc
 
     -- what is asked where the list is written
     pub given_fits : Fits s t (entry_length * k) n
@@ -174,12 +174,12 @@ module _ (s t : List ℕ) where
 -- ---- the list afterwards
 
 module _ (s t old : List ℕ) (k : ℕ) where
-  pub list_given : compare_of s t (length old) ≡ Compared k → list_after s t old ≡ at_front (list_bytes (walk (records_from s 0) (records_from t 0))) old
+  pub list_given : compare_of s t (length old) ≡ Ok k → list_after s t old ≡ at_front (list_bytes (walk (records_from s 0) (records_from t 0))) old
   unfolding list_after
   list_given e =
       none_answered (λ _. old) (compare_cases s t (length old)) _ (none s t (length old) k e).0
       ∙ ap (λ (es : List Entry). at_front (list_bytes es) old) (entries_are s t (given_first s t _ k e) (given_second s t _ k e))
 
-  pub list_refused : compare_of s t (length old) ≡ NoComparison k → list_after s t old ≡ old
+  pub list_refused : compare_of s t (length old) ≡ Err k → list_after s t old ≡ old
   unfolding list_after compare_of
-  list_refused e = refused_alike NoComparison (λ _. old) (compare_cases s t (length old)) _ _ k (λ m p. cc) (λ p. impossible (cc)) e
+  list_refused e = refused_alike Err (λ _. old) (compare_cases s t (length old)) _ _ k (λ m p. cc) (λ p. impossible (cc)) e

@@ -12,9 +12,10 @@ use Rattle.bigendian.specs.Numbers.{word_sum}
 use Rattle.instants.specs.Instants.{outside, day_index}
 use Rattle.record.specs.Records.{read_of, record_day_of, record_micros_of}
 use Rattle.files.specs.Files.{answers_in, file_cases, file_of}
-use Rattle.compare.specs.declared.CompareAnswer.TheVariants.{Compared, NoComparison}
 use Rattle.compare.specs.Walk.{entry, walk}
 use Rattle.compare.specs.Compare.{entries_of, compare_of}
+use Rattle.std.specs.Prelude.{Ok, Err}
+use Rattle.instants.specs.declared.refusal.Refusal.TheVariants.{BufferShort, RecordVersion, FileLength, FileOrder}
 
 -- ---- records
 
@@ -74,22 +75,22 @@ unfolding read_of word_sum outside day_index answers_in file_cases file_of walk 
 three_entries = refl
 
 -- PROMISE. 111 bytes hold them, and 110 do not.
-pub three_fit : (compare_of before after 111 ≡ Compared 3) × (compare_of before after 110 ≡ NoComparison 12)
+pub three_fit : (compare_of before after 111 ≡ Ok 3) × (compare_of before after 110 ≡ Err BufferShort)
 unfolding read_of word_sum outside day_index answers_in file_cases file_of walk entries_of compare_of
 three_fit = (refl, refl)
 
 -- PROMISE. Equal instants are refused by 28, and the first file's refusal comes before the second's.
-pub refused_in_order : (compare_of twice one_byte 0 ≡ NoComparison 28) × (compare_of one_byte twice 0 ≡ NoComparison 27)
+pub refused_in_order : (compare_of twice one_byte 0 ≡ Err FileOrder) × (compare_of one_byte twice 0 ≡ Err FileLength)
 unfolding read_of word_sum outside day_index answers_in file_cases file_of walk entries_of compare_of
 refused_in_order = (refl, refl)
 
 -- PROMISE. A record that does not read decides before the order, in either file.
-pub refused_unread : (compare_of falling_unread [] 0 ≡ NoComparison 14) × (compare_of [] falling_unread 0 ≡ NoComparison 14)
+pub refused_unread : (compare_of falling_unread [] 0 ≡ Err RecordVersion) × (compare_of [] falling_unread 0 ≡ Err RecordVersion)
 unfolding read_of word_sum outside day_index answers_in file_cases file_of walk entries_of compare_of
 refused_unread = (refl, refl)
 
 -- PROMISE. Two empty files have no entries.
-pub empty_compared : compare_of [] [] 0 ≡ Compared 0
+pub empty_compared : compare_of [] [] 0 ≡ Ok 0
 unfolding answers_in file_cases file_of walk entries_of compare_of
 empty_compared = refl
 

@@ -19,7 +19,6 @@ use Rattle.files.proofs.Refused.{file_refusal, unrefused, file_is}
 use Rattle.files.specs.Claims.{Each, AcceptedRecord}
 use Rattle.files.proofs.Records.{both, file_none, file_rises, file_recorded}
 use Rattle.compare.specs.declared.Entry.{Entry}
-use Rattle.compare.specs.declared.CompareAnswer.TheVariants.{Compared, NoComparison}
 use Rattle.compare.specs.Walk.{entry, equal, same_numbers, walk}
 use Rattle.compare.specs.Compare.{records_of, entries_of, entry_length, list_bytes, compare_cases, compare_of, list_after, entries_number_of, compare_refusal_of}
 use Rattle.compare.specs.Inner.{records_from}
@@ -31,18 +30,19 @@ use Rattle.compare.proofs.AtInstants.{Rising, rule_of, one_is, listed_at}
 use Rattle.compare.proofs.Exchanges.{walk_exchanged, walk_same, walk_empty}
 use Rattle.compare.proofs.Rises.{walk_in_order, each_found}
 use Rattle.compare.proofs.ReadsBack.{walk_reads_back}
+use Rattle.std.specs.Prelude.{Ok, Err}
 
 -- ---- the refusal, and what stands beside it
 
 -- PROMISE. The refusal is the first of the list that applies.
 pub compare_refusal : (s t : List ℕ) (n : ℕ) → compare_refusal_of (compare_of s t n) ≡ first_refusal (compare_cases s t n)
 unfolding compare_of
-compare_refusal s t n = handed_on NoComparison compare_refusal_of (λ k. refl) (compare_cases s t n) _
+compare_refusal s t n = handed_on Err compare_refusal_of (λ k. refl) (compare_cases s t n) _
 
 -- PROMISE. Beside a refusal the number of entries is 0.
 pub compare_zeroed : (s t : List ℕ) (n : ℕ) → (compare_refusal_of (compare_of s t n) ≡ 0 → ⊥) → entries_number_of (compare_of s t n) ≡ 0
 unfolding compare_of
-compare_zeroed s t n h = ap entries_number_of (refused_first NoComparison (compare_cases s t n) _ (λ z. h (compare_refusal s t n ∙ z)))
+compare_zeroed s t n h = ap entries_number_of (refused_first Err (compare_cases s t n) _ (λ z. h (compare_refusal s t n ∙ z)))
 
 -- PROMISE. And the list is as it was.
 pub compare_keeps : (s t list : List ℕ) → (compare_refusal_of (compare_of s t (length list)) ≡ 0 → ⊥) → list_after s t list ≡ list
@@ -52,9 +52,9 @@ compare_keeps s t list h = refused_first (λ _. list) (compare_cases s t (length
 -- ---- an answer
 
 -- without a refusal no case applies, and there is a number
-answered : (s t : List ℕ) (n : ℕ) → compare_refusal_of (compare_of s t n) ≡ 0 → compare_of s t n ≡ Compared (length (entries_of s t))
+answered : (s t : List ℕ) (n : ℕ) → compare_refusal_of (compare_of s t n) ≡ 0 → compare_of s t n ≡ Ok (length (entries_of s t))
 unfolding compare_of
-answered s t n z = none_answered NoComparison (compare_cases s t n) _ (compared_none s t n (sym (compare_refusal s t n) ∙ z))
+answered s t n z = none_answered Err (compare_cases s t n) _ (compared_none s t n (sym (compare_refusal s t n) ∙ z))
 
 -- PROMISE. Without a refusal the number is that of the entries.
 pub compare_number : (s t : List ℕ) (n : ℕ) → compare_refusal_of (compare_of s t n) ≡ 0 → entries_number_of (compare_of s t n) ≡ length (entries_of s t)
@@ -118,11 +118,11 @@ unfolding entries_of
 entries_same s = walk_same (records_of (file_of s))
 
 -- PROMISE. A file and itself are answered with no entry, whatever the list's room.
-pub same_compared : (s : List ℕ) (n : ℕ) → file_refusal_of (file_of s) ≡ 0 → compare_of s s n ≡ Compared 0
+pub same_compared : (s : List ℕ) (n : ℕ) → file_refusal_of (file_of s) ≡ 0 → compare_of s s n ≡ Ok 0
 same_compared s n z =
     let a = unrefused s (sym (file_refusal s) ∙ z) in
     let e : length (walk (records_from s 0) (records_from s 0)) ≡ 0 = ap length (walk_same (records_from s 0)) in
-    sym (long_enough s s a a n (omega (arith, e))) ∙ ap Compared e
+    sym (long_enough s s a a n (omega (arith, e))) ∙ ap Ok e
 
 -- PROMISE. What is answered without a refusal are two files.
 pub compared_files : (s t : List ℕ) (n : ℕ) → compare_refusal_of (compare_of s t n) ≡ 0

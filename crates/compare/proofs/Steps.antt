@@ -12,7 +12,6 @@ use borrow.Author.Tests.{ltb-true, ltb-false, lt-ltb, le-ltb}
 use mir.Syntax.{w32}
 use mir.Val.{SFits}
 use Rattle.record.specs.declared.Record.{Record}
-use Rattle.record.specs.declared.ReadAnswer.{ReadAnswer}
 use Rattle.record.specs.Format.{record_length}
 use Rattle.record.specs.Records.{read_of, is_record}
 use Rattle.record.proofs.Unrefused.{read_day_fits}
@@ -21,10 +20,11 @@ use Rattle.files.specs.Inner.{at_end, sound_after, answers_from, sound, Standing
 use Rattle.files.proofs.Places.{Found, standing_front, standing_found, found_rest, standing_on, past_sound, past_unsound}
 use Rattle.compare.specs.declared.Entry.{Entry}
 use Rattle.compare.specs.declared.Place.{Place}
-use Rattle.compare.specs.declared.Count.TheVariants.{Entries, NoCount}
 use Rattle.compare.specs.Walk.{first_only, second_only, alone, same_numbers, changed, differing, walk}
 use Rattle.compare.specs.Inner.{record_at, records_from, record_in, place, start_of, behind, next_place, here, Going, count_of}
 use Rattle.compare.proofs.Walks.{walk_first, walk_second, walk_both, walk_none, few_differing}
+use Rattle.std.specs.Prelude.{Result, Some, None}
+use Rattle.instants.specs.declared.refusal.Refusal.{Refusal}
 
 -- ---- a file at a place
 
@@ -250,18 +250,18 @@ module _ {s t : List ℕ} {p : Place} {n : ℕ} (c : Counting s t p n) where
   counting_all x y =
       let a = past_sound c.first (omega (arith, x)) x in
       let b = past_sound c.second (omega (arith, y)) y in
-      let w : length (walk (records_from s p.first) (records_from t p.second)) ≡ 0 = ap₂ (λ (f g : List ReadAnswer). length (walk (records_among f) (records_among g))) a.1 b.1 ∙ ap length walk_none in
+      let w : length (walk (records_from s p.first) (records_from t p.second)) ≡ 0 = ap₂ (λ (f g : List (Result Record Refusal)). length (walk (records_among f) (records_among g))) a.1 b.1 ∙ ap length walk_none in
       (a.0, b.0, omega (arith, w, c.all a.0 b.0))
 
   -- one that is not sound
-  pub counting_first : at_end ≤ p.m → (p.m ≡ at_end → ⊥) → NoCount ≡ count_of s t
+  pub counting_first : at_end ≤ p.m → (p.m ≡ at_end → ⊥) → None ≡ count_of s t
   unfolding count_of
   counting_first h x = rw (past_unsound c.first h x) refl
 
-  pub counting_second : p.m ≡ at_end → at_end ≤ p.n → (p.n ≡ at_end → ⊥) → NoCount ≡ count_of s t
+  pub counting_second : p.m ≡ at_end → at_end ≤ p.n → (p.n ≡ at_end → ⊥) → None ≡ count_of s t
   unfolding count_of
   counting_second x h y = rw ((past_sound c.first (omega (arith, x)) x).0, past_unsound c.second h y) refl
 
-  pub counting_done : p.m ≡ at_end → p.n ≡ at_end → Entries n ≡ count_of s t
+  pub counting_done : p.m ≡ at_end → p.n ≡ at_end → Some n ≡ count_of s t
   unfolding count_of
   counting_done x y = let a = counting_all x y in rw (a.0, a.1, a.2) refl

@@ -1,15 +1,15 @@
 -- Service (k): what is given for two files s and t, and a list of n bytes.
-use Rattle.std.specs.Prelude.{ℕ, ◌*◌, List, [], ◌∷◌, ◌++◌, ltb, length}
+use Rattle.std.specs.Prelude.{ℕ, ◌*◌, List, [], ◌∷◌, ◌++◌, ltb, length, Result, Ok, Err}
 use Rattle.bigendian.specs.declared.Field.{Field}
 use Rattle.bigendian.specs.Fields.{field, in_field, signed_in}
 use Rattle.bigendian.specs.Buffers.{at_front}
-use Rattle.instants.specs.Refusals.{Case, case, refused_or}
+use Rattle.instants.specs.Refusals.{Case, case, refused_or, refusal_of}
 use Rattle.record.specs.declared.Record.{Record}
 use Rattle.files.specs.Files.{FileAnswer, IsFile, NoFile, file_of, file_cases}
 use Rattle.compare.specs.declared.Entry.{Entry}
-use Rattle.compare.specs.declared.CompareAnswer.{CompareAnswer}
-use Rattle.compare.specs.declared.CompareAnswer.TheVariants.{Compared, NoComparison}
 use Rattle.compare.specs.Walk.{walk}
+use Rattle.instants.specs.declared.refusal.Refusal.{Refusal}
+use Rattle.instants.specs.declared.refusal.Refusal.TheVariants.{BufferShort}
 
 -- ---- the list
 
@@ -71,11 +71,11 @@ list_bytes (e ∷ es) = entry_bytes e ++ list_bytes es
 
 -- the refusals: of the first file, of the second, and of the list
 abbrev pub compare_cases : List ℕ → List ℕ → ℕ → List Case
-compare_cases s t n = file_cases s ++ (file_cases t ++ case 12 (ltb n (entry_length * length (entries_of s t))) ∷ [])
+compare_cases s t n = file_cases s ++ (file_cases t ++ case BufferShort (ltb n (entry_length * length (entries_of s t))) ∷ [])
 
 -- the number of entries, or the first refusal
-unfoldable pub compare_of : List ℕ → List ℕ → ℕ → CompareAnswer
-compare_of s t n = refused_or NoComparison (compare_cases s t n) (Compared (length (entries_of s t)))
+unfoldable pub compare_of : List ℕ → List ℕ → ℕ → Result ℕ Refusal
+compare_of s t n = refused_or Err (compare_cases s t n) (Ok (length (entries_of s t)))
 
 -- the list's buffer afterwards: as it was on a refusal, else with the list at its front
 unfoldable pub list_after : List ℕ → List ℕ → List ℕ → List ℕ
@@ -84,11 +84,10 @@ list_after s t old = refused_or (λ _. old) (compare_cases s t (length old)) (at
 -- ---- the numbers of an answer: 0 beside a refusal
 
 -- entries
-abbrev pub entries_number_of : CompareAnswer → ℕ
-entries_number_of (Compared n) = n
-entries_number_of (NoComparison n) = 0
+abbrev pub entries_number_of : Result ℕ Refusal → ℕ
+entries_number_of (Ok n) = n
+entries_number_of (Err n) = 0
 
 -- the refusal number, 0 for none
-abbrev pub compare_refusal_of : CompareAnswer → ℕ
-compare_refusal_of (Compared n) = 0
-compare_refusal_of (NoComparison n) = n
+abbrev pub compare_refusal_of : Result ℕ Refusal → ℕ
+compare_refusal_of = refusal_of

@@ -1,21 +1,19 @@
 -- What only the contracts of the code's own functions cite.
-use Rattle.std.specs.Prelude.{ℕ, ◌+◌, ◌*◌, ◌≤◌, ◌≡◌, Bool, true, cond, ◌&&◌, ◌||◌, List, [], ◌∷◌, ◌++◌, ltb, length, drop}
+use Rattle.std.specs.Prelude.{ℕ, ◌+◌, ◌*◌, ◌≤◌, ◌≡◌, Bool, true, cond, ◌&&◌, ◌||◌, List, [], ◌∷◌, ◌++◌, ltb, length, drop, Result, Option, Some, None}
 use Rattle.instants.specs.Refusals.{first_refusal}
 use Rattle.record.specs.declared.Record.{Record}
-use Rattle.record.specs.declared.ReadAnswer.{ReadAnswer}
 use Rattle.record.specs.Format.{record_length}
 use Rattle.record.specs.Records.{record_with, read_of, record_day_of, record_micros_of, record_ut1_of, record_lod_of, record_rate_of}
 use Rattle.files.specs.Files.{records_among, file_cases}
 use Rattle.files.specs.Inner.{at_end, next_moment, answers_from, sound, Standing}
 use Rattle.compare.specs.declared.Entry.{Entry}
 use Rattle.compare.specs.declared.Place.{Place}
-use Rattle.compare.specs.declared.Count.{Count}
-use Rattle.compare.specs.declared.Count.TheVariants.{Entries, NoCount}
 use Rattle.compare.specs.Walk.{first_only, second_only, alone, differing, walk}
 use Rattle.compare.specs.Compare.{entry_length}
+use Rattle.instants.specs.declared.refusal.Refusal.{Refusal}
 
 -- the record of an answer, of zeros for one that is none
-abbrev pub record_in : ReadAnswer → Record
+abbrev pub record_in : Result Record Refusal → Record
 record_in a = record_with (record_day_of a) (record_micros_of a) (record_ut1_of a) (record_lod_of a) (record_rate_of a)
 
 -- the record at place i of s
@@ -63,8 +61,8 @@ pub record Going (s t : List ℕ) (p : Place) (known : Bool) : Type 0 where
 -- ---- the numbers
 
 -- the number of entries of two files, if both are sound
-unfoldable pub count_of : List ℕ → List ℕ → Count
-count_of s t = cond (sound s && sound t) (Entries (length (walk (records_from s 0) (records_from t 0)))) NoCount
+unfoldable pub count_of : List ℕ → List ℕ → Option ℕ
+count_of s t = cond (sound s && sound t) (Some (length (walk (records_from s 0) (records_from t 0)))) None
 
 -- the first refusal of two files, or 0
 unfoldable pub files_refusal : List ℕ → List ℕ → ℕ

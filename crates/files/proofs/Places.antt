@@ -12,21 +12,21 @@ use lib.ListN.{length, drop}
 use borrow.Author.Tests.{ltb-true, lt-ltb, le-ltb}
 use Rattle.instants.proofs.Moments.{accepted_le}
 use Rattle.record.specs.declared.Record.{Record}
-use Rattle.record.specs.declared.ReadAnswer.{ReadAnswer}
-use Rattle.record.specs.declared.ReadAnswer.TheVariants.{IsRecord, NoRecord}
 use Rattle.record.specs.Format.{record_length}
 use Rattle.record.specs.Records.{read_of, is_record}
 use Rattle.record.proofs.Unrefused.{read_accepted}
 use Rattle.files.specs.Files.{when}
 use Rattle.files.specs.Inner.{at_end, unsound, moment_in, next_moment, sound_after, answers_from, sound, Standing}
 use Rattle.files.proofs.Answers.{from_step, from_end}
+use Rattle.std.specs.Prelude.{Result, Ok, Err}
+use Rattle.instants.specs.declared.refusal.Refusal.{Refusal}
 
 -- a moment is positive, whatever the record
 pub after_zero : (r : Record) → ltb 0 (when r) ≡ true
 after_zero r = lt-ltb 0 (when r) (omega arith)
 
 -- and that of a record that reads is before the end
-pub before_end : (s : List ℕ) (r : Record) → read_of s ≡ IsRecord r → when r < at_end
+pub before_end : (s : List ℕ) (r : Record) → read_of s ≡ Ok r → when r < at_end
 before_end s r e = omega (arith, accepted_le r.day r.micros (read_accepted s r e))
 
 -- the front of a file
@@ -37,18 +37,18 @@ standing_front s m e = record { within = omega arith; last = 0; moment = e; rest
 -- a record at a place, and the moment before it
 pub record Found (s : List ℕ) (i m last : ℕ) : Type 0 where
   pub it : Record
-  pub reads : read_of (drop i s) ≡ IsRecord it
+  pub reads : read_of (drop i s) ≡ Ok it
   pub is : when it ≡ m
   pub after : last < m
   pub room : i + record_length ≤ length s
-  pub answers : answers_from s i ≡ IsRecord it ∷ answers_from s (i + record_length)
+  pub answers : answers_from s i ≡ Ok it ∷ answers_from s (i + record_length)
 
 -- a moment that is before the end is a record's
-moment_of_record : (t m : ℕ) (x : ReadAnswer) → m ≡ moment_in t x → m < at_end → (r : Record) × (x ≡ IsRecord r) × (when r ≡ m) × (t < m)
-moment_of_record t m (NoRecord n) e h = absurd (omega arith)
-moment_of_record t m (IsRecord r) e h = by (ltb t (when r)) refl e
+moment_of_record : (t m : ℕ) (x : (Result Record Refusal)) → m ≡ moment_in t x → m < at_end → (r : Record) × (x ≡ Ok r) × (when r ≡ m) × (t < m)
+moment_of_record t m (Err n) e h = absurd (omega arith)
+moment_of_record t m (Ok r) e h = by (ltb t (when r)) refl e
   where
-    by : (b : Bool) → ltb t (when r) ≡ b → m ≡ cond b (when r) unsound → (q : Record) × (◌≡◌ {A = ReadAnswer} (IsRecord r) (IsRecord q)) × (when q ≡ m) × (t < m)
+    by : (b : Bool) → ltb t (when r) ≡ b → m ≡ cond b (when r) unsound → (q : Record) × (◌≡◌ {A = (Result Record Refusal)} (Ok r) (Ok q)) × (when q ≡ m) × (t < m)
     by true p e = (r, refl, sym e, omega (arith, ltb-true t (when r) p))
     by false p e = absurd (omega arith)
 
@@ -67,7 +67,7 @@ module _ {s : List ℕ} {i m : ℕ} (p : Standing s i m) where
             is = f.2;
             after = f.3;
             room = y;
-            answers = from_step s i y ∙ ap (λ (x : ReadAnswer). x ∷ answers_from s (i + record_length)) f.1;
+            answers = from_step s i y ∙ ap (λ (x : (Result Record Refusal)). x ∷ answers_from s (i + record_length)) f.1;
           }
 
   -- the file is sound if what is behind the record is
@@ -87,9 +87,9 @@ ended : (s : List ℕ) (t m : ℕ) (i : ℕ) → i ≤ length s → m ≡ next_m
     → ((m ≡ at_end) × (answers_from s i ≡ [])) ⊎ ((m ≡ unsound) × (sound_after t (answers_from s i) ≡ false))
 ended s t m i w e h = by (dec_le (i + record_length) (length s))
   where
-    tested : (x : ReadAnswer) → x ≡ read_of (drop i s) → m ≡ moment_in t x → (m ≡ unsound) × (sound_after t (x ∷ answers_from s (i + record_length)) ≡ false)
-    tested (NoRecord n) q e = (e, refl)
-    tested (IsRecord r) q e = test (ltb t (when r)) e
+    tested : (x : (Result Record Refusal)) → x ≡ read_of (drop i s) → m ≡ moment_in t x → (m ≡ unsound) × (sound_after t (x ∷ answers_from s (i + record_length)) ≡ false)
+    tested (Err n) q e = (e, refl)
+    tested (Ok r) q e = test (ltb t (when r)) e
       where
         test : (b : Bool) → m ≡ cond b (when r) unsound → (m ≡ unsound) × ((b && sound_after (when r) (answers_from s (i + record_length))) ≡ false)
         test true e = absurd (omega (arith, before_end (drop i s) r (sym q)))
@@ -131,9 +131,9 @@ module _ (s : List ℕ) (i t : ℕ) where
 
   -- where what is left is sound, it starts with a record
   module _ (h : i + record_length ≤ length s) (e : sound_after t (answers_from s i) ≡ true) where
-    starts : (x : ReadAnswer) → sound_after t (x ∷ answers_from s (i + record_length)) ≡ true → (is_record x ≡ true) × (moment_in 0 x ≡ moment_in t x)
-    starts (NoRecord n) e = absurd (true≢false (sym e))
-    starts (IsRecord r) e = (refl, by (ltb t (when r)) e)
+    starts : (x : (Result Record Refusal)) → sound_after t (x ∷ answers_from s (i + record_length)) ≡ true → (is_record x ≡ true) × (moment_in 0 x ≡ moment_in t x)
+    starts (Err n) e = absurd (true≢false (sym e))
+    starts (Ok r) e = (refl, by (ltb t (when r)) e)
       where
         by : (b : Bool) → (b && sound_after (when r) (answers_from s (i + record_length))) ≡ true → cond (ltb 0 (when r)) (when r) unsound ≡ cond b (when r) unsound
         by true e = rw (after_zero r) refl
@@ -149,19 +149,19 @@ module _ (s : List ℕ) (i t : ℕ) where
     known_there = read.1 ∙ moment_there h
 
 -- of an answer that is no record, and of one whose moment is m
-pub moment_unread : (t : ℕ) (x : ReadAnswer) → is_record x ≡ false → unsound ≡ moment_in t x
-moment_unread t (NoRecord n) e = refl
-moment_unread t (IsRecord r) e = absurd (true≢false e)
+pub moment_unread : (t : ℕ) (x : (Result Record Refusal)) → is_record x ≡ false → unsound ≡ moment_in t x
+moment_unread t (Err n) e = refl
+moment_unread t (Ok r) e = absurd (true≢false e)
 
 module _ (t m : ℕ) where
-  pub moment_early : (x : ReadAnswer) → is_record x ≡ true → m ≡ moment_in 0 x → m ≤ t → unsound ≡ moment_in t x
-  moment_early (NoRecord n) e p h = absurd (true≢false (sym e))
-  moment_early (IsRecord r) e p h =
+  pub moment_early : (x : (Result Record Refusal)) → is_record x ≡ true → m ≡ moment_in 0 x → m ≤ t → unsound ≡ moment_in t x
+  moment_early (Err n) e p h = absurd (true≢false (sym e))
+  moment_early (Ok r) e p h =
       let q : m ≡ when r = p ∙ rw (after_zero r) refl in
       sym (rw (le-ltb t (when r) (omega (arith, q))) refl)
 
-  pub moment_later : (x : ReadAnswer) → is_record x ≡ true → m ≡ moment_in 0 x → t < m → m ≡ moment_in t x
-  moment_later (NoRecord n) e p h = absurd (true≢false (sym e))
-  moment_later (IsRecord r) e p h =
+  pub moment_later : (x : (Result Record Refusal)) → is_record x ≡ true → m ≡ moment_in 0 x → t < m → m ≡ moment_in t x
+  moment_later (Err n) e p h = absurd (true≢false (sym e))
+  moment_later (Ok r) e p h =
       let q : m ≡ when r = p ∙ rw (after_zero r) refl in
       q ∙ sym (rw (lt-ltb t (when r) (omega (arith, q))) refl)

@@ -13,14 +13,14 @@ use Rattle.instants.proofs.Impossible.{impossible}
 use Rattle.instants.proofs.Accepted.{both_false}
 use Rattle.instants.proofs.FirstRefusal.{NoneApplies, none_both, answered_none}
 use Rattle.record.specs.declared.Record.{Record}
-use Rattle.record.specs.declared.ReadAnswer.{ReadAnswer}
-use Rattle.record.specs.declared.ReadAnswer.TheVariants.{IsRecord, NoRecord}
 use Rattle.record.specs.Format.{record_length}
 use Rattle.record.specs.Records.{read_of}
 use Rattle.record.proofs.Unrefused.{read_accepted, read_day_fits, read_numbers_fit}
 use Rattle.files.specs.Files.{most_bytes, answers, answers_in, records_among, when, starts_after, rises, wrong_length, reading_cases, order_cases, file_cases, IsFile, NoFile, file_of}
 use Rattle.files.specs.Claims.{Each, AcceptedRecord, Fitting}
 use Rattle.instants.proofs.Order.{moment_order}
+use Rattle.std.specs.Prelude.{Result, Ok, Err}
+use Rattle.instants.specs.declared.refusal.Refusal.{Refusal}
 
 -- both hold where their conjunction does
 pub both : (a b : Bool) → (a && b) ≡ true → (a ≡ true) × (b ≡ true)
@@ -33,7 +33,7 @@ pub record Recorded (n : ℕ) (s : List ℕ) (rs : List Record) : Type 0 where
   pub count : length rs ≡ n
   pub accepted : Each AcceptedRecord rs
   pub fitting : Each Fitting rs
-  pub reads : (k : ℕ) (r : Record) (more : List Record) → drop k rs ≡ r ∷ more → read_of (drop (record_length * k) s) ≡ IsRecord r
+  pub reads : (k : ℕ) (r : Record) (more : List Record) → drop k rs ≡ r ∷ more → read_of (drop (record_length * k) s) ≡ Ok r
 
 recorded : (n : ℕ) (s : List ℕ) → NoneApplies (reading_cases (answers n s)) → Recorded n s (records_among (answers n s))
 recorded zero s h = record { count = refl; accepted = tt; fitting = tt; reads = λ k r more e. impossible (nothing k r more e) }
@@ -42,11 +42,11 @@ recorded zero s h = record { count = refl; accepted = tt; fitting = tt; reads = 
     nothing k r more e = let v : ◌≡◌ {A = List Record} [] (r ∷ more) = sym (drop-nil k) ∙ e in cc
 recorded (suc n) s h = by (read_of s) refl h (recorded n (drop record_length s))
   where
-    by : (x : ReadAnswer) → read_of s ≡ x → NoneApplies (reading_cases (x ∷ answers n (drop record_length s)))
+    by : (x : (Result Record Refusal)) → read_of s ≡ x → NoneApplies (reading_cases (x ∷ answers n (drop record_length s)))
         → (NoneApplies (reading_cases (answers n (drop record_length s))) → Recorded n (drop record_length s) (records_among (answers n (drop record_length s))))
         → Recorded (suc n) s (records_among (x ∷ answers n (drop record_length s)))
-    by (NoRecord m) p h f = absurd (true≢false h.0)
-    by (IsRecord r) p h f =
+    by (Err m) p h f = absurd (true≢false h.0)
+    by (Ok r) p h f =
         let more : Recorded n (drop record_length s) (records_among (answers n (drop record_length s))) = f h.1 in
         let w = read_numbers_fit s r p in
         record {
@@ -56,8 +56,8 @@ recorded (suc n) s h = by (read_of s) refl h (recorded n (drop record_length s))
           reads = at;
         }
       where
-        at : (k : ℕ) (q : Record) (qs : List Record) → drop k (r ∷ records_among (answers n (drop record_length s))) ≡ q ∷ qs → read_of (drop (record_length * k) s) ≡ IsRecord q
-        at zero q qs e = let v : r ≡ q = cc in p ∙ ap IsRecord v
+        at : (k : ℕ) (q : Record) (qs : List Record) → drop k (r ∷ records_among (answers n (drop record_length s))) ≡ q ∷ qs → read_of (drop (record_length * k) s) ≡ Ok q
+        at zero q qs e = let v : r ≡ q = cc in p ∙ ap Ok v
         at (suc k) q qs e =
             let j : record_length * suc k ≡ record_length + record_length * k = omega arith in
             ap (λ (i : ℕ). read_of (drop i s)) j ∙ (ap read_of (sym (drop-drop (record_length * k) record_length s)) ∙ (f h.1).reads k q qs e)

@@ -13,8 +13,6 @@ use borrow.Author.Tests.{ltb-false}
 use Rattle.instants.proofs.Accepted.{both_false}
 use Rattle.instants.proofs.FirstRefusal.{NoneApplies, none_both, none_append, handed_on, refused_append, none_answered, refused_first}
 use Rattle.record.specs.declared.Record.{Record}
-use Rattle.record.specs.declared.ReadAnswer.{ReadAnswer}
-use Rattle.record.specs.declared.ReadAnswer.TheVariants.{IsRecord, NoRecord}
 use Rattle.record.specs.Format.{record_length}
 use Rattle.record.specs.Records.{read_of}
 use Rattle.record.proofs.Unrefused.{refusal_numbered}
@@ -22,37 +20,39 @@ use Rattle.files.specs.Files.{most_bytes, answers, answers_in, records_among, wh
 use Rattle.files.specs.Inner.{sound_after, answers_from, sound, reading_refusal}
 use Rattle.files.proofs.Answers.{from_step, from_end}
 use Rattle.files.proofs.Places.{after_zero}
+use Rattle.std.specs.Prelude.{Result, Ok, Err}
+use Rattle.instants.specs.declared.refusal.Refusal.{Refusal}
 
 -- ---- reading, one record after the other
 
 module _ (s : List ℕ) (i : ℕ) where
-  pub reading_on_lem : (r : Record) → i + record_length ≤ length s → read_of (drop i s) ≡ IsRecord r
+  pub reading_on_lem : (r : Record) → i + record_length ≤ length s → read_of (drop i s) ≡ Ok r
       → first_refusal (reading_cases (answers_from s i)) ≡ first_refusal (reading_cases (answers_from s (i + record_length)))
   reading_on_lem r h e =
-      ap (λ (l : List ReadAnswer). first_refusal (reading_cases l)) (from_step s i h)
-      ∙ ap (λ (x : ReadAnswer). first_refusal (reading_cases (x ∷ answers_from s (i + record_length)))) e
+      ap (λ (l : List (Result Record Refusal)). first_refusal (reading_cases l)) (from_step s i h)
+      ∙ ap (λ (x : (Result Record Refusal)). first_refusal (reading_cases (x ∷ answers_from s (i + record_length)))) e
 
-  pub reading_stops : (n : ℕ) → i + record_length ≤ length s → read_of (drop i s) ≡ NoRecord n → first_refusal (reading_cases (answers_from s i)) ≡ n
+  pub reading_stops : (n : ℕ) → i + record_length ≤ length s → read_of (drop i s) ≡ Err n → first_refusal (reading_cases (answers_from s i)) ≡ n
   reading_stops n h e =
-      ap (λ (l : List ReadAnswer). first_refusal (reading_cases l)) (from_step s i h)
-      ∙ ap (λ (x : ReadAnswer). first_refusal (reading_cases (x ∷ answers_from s (i + record_length)))) e
+      ap (λ (l : List (Result Record Refusal)). first_refusal (reading_cases l)) (from_step s i h)
+      ∙ ap (λ (x : (Result Record Refusal)). first_refusal (reading_cases (x ∷ answers_from s (i + record_length)))) e
 
   pub reading_ends : length s < i + record_length → i ≤ length s → first_refusal (reading_cases (answers_from s i)) ≡ 0
-  reading_ends h k = ap (λ (l : List ReadAnswer). first_refusal (reading_cases l)) (from_end s i h k)
+  reading_ends h k = ap (λ (l : List (Result Record Refusal)). first_refusal (reading_cases l)) (from_end s i h k)
 
 -- ---- sound answers
 
 -- where every answer is a record, they are sound if the records rise
-none_sound : (t : ℕ) (xs : List ReadAnswer) → NoneApplies (reading_cases xs) → sound_after t xs ≡ (starts_after t (records_among xs) && rises (records_among xs))
+none_sound : (t : ℕ) (xs : List (Result Record Refusal)) → NoneApplies (reading_cases xs) → sound_after t xs ≡ (starts_after t (records_among xs) && rises (records_among xs))
 none_sound t [] h = refl
-none_sound t (NoRecord n ∷ xs) h = absurd (true≢false h.0)
-none_sound t (IsRecord r ∷ xs) h = ap (λ (b : Bool). ltb t (when r) && b) (none_sound (when r) xs h.1)
+none_sound t (Err n ∷ xs) h = absurd (true≢false h.0)
+none_sound t (Ok r ∷ xs) h = ap (λ (b : Bool). ltb t (when r) && b) (none_sound (when r) xs h.1)
 
 -- and where they are sound, every answer is a record
-sound_none : (t : ℕ) (xs : List ReadAnswer) → sound_after t xs ≡ true → NoneApplies (reading_cases xs)
+sound_none : (t : ℕ) (xs : List (Result Record Refusal)) → sound_after t xs ≡ true → NoneApplies (reading_cases xs)
 sound_none t [] e = tt
-sound_none t (NoRecord n ∷ xs) e = absurd (true≢false (sym e))
-sound_none t (IsRecord r ∷ xs) e = (refl, by (ltb t (when r)) e (sound_none (when r) xs))
+sound_none t (Err n ∷ xs) e = absurd (true≢false (sym e))
+sound_none t (Ok r ∷ xs) e = (refl, by (ltb t (when r)) e (sound_none (when r) xs))
   where
     by : (b : Bool) → (b && sound_after (when r) xs) ≡ true → (sound_after (when r) xs ≡ true → NoneApplies (reading_cases xs)) → NoneApplies (reading_cases xs)
     by true e f = f e
@@ -63,7 +63,7 @@ starts_after_lem : (rs : List Record) → starts_after 0 rs ≡ true
 starts_after_lem [] = refl
 starts_after_lem (r ∷ rs) = after_zero r
 
-risen : (xs : List ReadAnswer) → NoneApplies (reading_cases xs) → sound_after 0 xs ≡ rises (records_among xs)
+risen : (xs : List (Result Record Refusal)) → NoneApplies (reading_cases xs) → sound_after 0 xs ≡ rises (records_among xs)
 risen xs h = none_sound 0 xs h ∙ ap (λ (b : Bool). b && rises (records_among xs)) (starts_after_lem (records_among xs))
 
 -- a first refusal of 0 says that every record reads, since none has the number 0
@@ -71,10 +71,10 @@ all_read : (n : ℕ) (s : List ℕ) → first_refusal (reading_cases (answers n 
 all_read zero s e = tt
 all_read (suc n) s e = by (read_of s) refl e (all_read n (drop record_length s))
   where
-    by : (x : ReadAnswer) → read_of s ≡ x → first_refusal (reading_cases (x ∷ answers n (drop record_length s))) ≡ 0 → (first_refusal (reading_cases (answers n (drop record_length s))) ≡ 0 → NoneApplies (reading_cases (answers n (drop record_length s))))
+    by : (x : (Result Record Refusal)) → read_of s ≡ x → first_refusal (reading_cases (x ∷ answers n (drop record_length s))) ≡ 0 → (first_refusal (reading_cases (answers n (drop record_length s))) ≡ 0 → NoneApplies (reading_cases (answers n (drop record_length s))))
         → NoneApplies (reading_cases (x ∷ answers n (drop record_length s)))
-    by (NoRecord m) p e f = absurd (refusal_numbered s m p e)
-    by (IsRecord r) p e f = (refl, f e)
+    by (Err m) p e f = absurd (refusal_numbered s m p e)
+    by (Ok r) p e f = (refl, f e)
 
 -- ---- the file
 
@@ -148,9 +148,9 @@ few_among : (n : ℕ) (s : List ℕ) → length (records_among (answers n s)) �
 few_among zero s = omega arith
 few_among (suc n) s = by (read_of s) (few_among n (drop record_length s))
   where
-    by : (x : ReadAnswer) → length (records_among (answers n (drop record_length s))) ≤ n → length (records_among (x ∷ answers n (drop record_length s))) ≤ suc n
-    by (IsRecord r) h = omega arith
-    by (NoRecord m) h = omega arith
+    by : (x : (Result Record Refusal)) → length (records_among (answers n (drop record_length s))) ≤ n → length (records_among (x ∷ answers n (drop record_length s))) ≤ suc n
+    by (Ok r) h = omega arith
+    by (Err m) h = omega arith
 
 -- at most one for thirty bytes
 pub records_few : (s : List ℕ) → record_length * length (records_among (answers_in s)) ≤ length s

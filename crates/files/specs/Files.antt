@@ -1,12 +1,12 @@
 -- A record file: whole records, one behind the other, whose instants rise. Its records, or its refusal.
-use Rattle.std.specs.Prelude.{ℕ, zero, suc, ◌/◌, ◌%◌, Bool, true, not, ◌&&◌, ◌||◌, List, [], ◌∷◌, ◌++◌, eqb, ltb, length, drop}
+use Rattle.std.specs.Prelude.{ℕ, zero, suc, ◌/◌, ◌%◌, Bool, true, not, ◌&&◌, ◌||◌, List, [], ◌∷◌, ◌++◌, eqb, ltb, length, drop, Result, Ok, Err}
 use Rattle.instants.specs.Refusals.{Case, case, refused_or}
 use Rattle.instants.specs.Moments.{moment_of}
 use Rattle.record.specs.declared.Record.{Record}
-use Rattle.record.specs.declared.ReadAnswer.{ReadAnswer}
-use Rattle.record.specs.declared.ReadAnswer.TheVariants.{IsRecord, NoRecord}
 use Rattle.record.specs.Format.{record_length}
 use Rattle.record.specs.Records.{read_of, is_record, read_refusal_of}
+use Rattle.instants.specs.declared.refusal.Refusal.{Refusal}
+use Rattle.instants.specs.declared.refusal.Refusal.TheVariants.{FileLength, FileOrder}
 
 -- the most bytes of a file
 abbrev pub most_bytes : ℕ
@@ -15,19 +15,19 @@ most_bytes = 65520
 -- ---- what is read
 
 -- the answers of n records at the front of s, one behind the other
-abbrev pub answers : ℕ → List ℕ → List ReadAnswer
+abbrev pub answers : ℕ → List ℕ → List (Result Record Refusal)
 answers zero s = []
 answers (suc n) s = read_of s ∷ answers n (drop record_length s)
 
 -- those of all whole records in s
-unfoldable pub answers_in : List ℕ → List ReadAnswer
+unfoldable pub answers_in : List ℕ → List (Result Record Refusal)
 answers_in s = answers (length s / record_length) s
 
 -- the records among answers
-abbrev pub records_among : List ReadAnswer → List Record
+abbrev pub records_among : List (Result Record Refusal) → List Record
 records_among [] = []
-records_among (IsRecord r ∷ xs) = r ∷ records_among xs
-records_among (NoRecord n ∷ xs) = records_among xs
+records_among (Ok r ∷ xs) = r ∷ records_among xs
+records_among (Err n ∷ xs) = records_among xs
 
 -- the moment of a record's instant, by which records are ordered
 abbrev pub when : Record → ℕ
@@ -51,16 +51,16 @@ wrong_length n = not (eqb (n % record_length) 0) || ltb most_bytes n
 
 -- the refusal of a length
 abbrev pub length_cases : ℕ → List Case
-length_cases n = case 27 (wrong_length n) ∷ []
+length_cases n = case FileLength (wrong_length n) ∷ []
 
 -- those of answers: each that is no record has its own, so that the earliest decides
-abbrev pub reading_cases : List ReadAnswer → List Case
+abbrev pub reading_cases : List (Result Record Refusal) → List Case
 reading_cases [] = []
 reading_cases (x ∷ xs) = case (read_refusal_of x) (not (is_record x)) ∷ reading_cases xs
 
 -- that of the order of the instants
 abbrev pub order_cases : List Record → List Case
-order_cases rs = case 28 (not (rises rs)) ∷ []
+order_cases rs = case FileOrder (not (rises rs)) ∷ []
 
 -- those of a file: of its length, of reading, and of the order
 unfoldable pub file_cases : List ℕ → List Case

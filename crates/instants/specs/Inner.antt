@@ -1,24 +1,15 @@
 -- What only the contracts of the code's own functions cite, here, in calendar and in run.
-use Rattle.std.specs.Prelude.{ℕ, ◌^◌, ◌<◌, cond, ℤ}
+use Rattle.std.specs.Prelude.{ℕ, ◌^◌, ◌<◌, cond, ℤ, Option, Some, None}
 use Rattle.instants.specs.Instants.{instant, outside, day_index, IsAccepted, later_day, later_micros}
 use Rattle.instants.specs.declared.Instant.{Instant}
-use Rattle.instants.specs.declared.Acceptance.{Acceptance}
-use Rattle.instants.specs.declared.Acceptance.TheVariants.{Accepted, NotAccepted}
-use Rattle.instants.specs.declared.IndexAnswer.{IndexAnswer}
-use Rattle.instants.specs.declared.IndexAnswer.TheVariants.{AtIndex, NoIndex}
 
 -- indices below this, far more than the range has, are turned into dates and day numbers
 abbrev pub index_limit : ℕ
 index_limit = 1_000_000
 
 -- a day number's index, or that it has none in range
-unfoldable pub index_answer : ℤ → IndexAnswer
-index_answer z = cond (outside z) NoIndex (AtIndex (day_index z))
-
--- the refusal number of an instant, 0 for an accepted one
-abbrev pub acceptance_refusal_of : Acceptance → ℕ
-acceptance_refusal_of (Accepted i) = 0
-acceptance_refusal_of (NotAccepted n) = n
+unfoldable pub index_answer : ℤ → Option ℕ
+index_answer z = cond (outside z) None (Some (day_index z))
 
 -- the instant t microseconds after the instant d, m
 abbrev pub later_instant : ℤ → ℕ → ℕ → Instant

@@ -1,12 +1,12 @@
 -- An instant: a day number (MJD) with microseconds since 0 h, both of Terrestrial Time. Which instants are accepted, and the
 -- instant some microseconds later.
-use Rattle.std.specs.Prelude.{ℕ, ◌+◌, ◌/◌, ◌%◌, ◌≡◌, Bool, ◌||◌, List, [], ◌∷◌, leb, ℤ, pos, ◌+ℤ◌, ◌-ℤ◌, nat_abs}
+use Rattle.std.specs.Prelude.{ℕ, ◌+◌, ◌/◌, ◌%◌, ◌≡◌, Bool, ◌||◌, List, [], ◌∷◌, leb, ℤ, pos, ◌+ℤ◌, ◌-ℤ◌, nat_abs, Result, Ok, Err}
 use Rattle.std.specs.Int.Signed.{lt_z}
 use Rattle.instants.specs.Limits.{first_day, last_day, day_micros, index_offset}
 use Rattle.instants.specs.Refusals.{Case, case, refused_or}
 use Rattle.instants.specs.declared.Instant.{Instant}
-use Rattle.instants.specs.declared.Acceptance.{Acceptance}
-use Rattle.instants.specs.declared.Acceptance.TheVariants.{Accepted, NotAccepted}
+use Rattle.instants.specs.declared.refusal.Refusal.{Refusal}
+use Rattle.instants.specs.declared.refusal.Refusal.TheVariants.{Day, Micros}
 
 -- the instant of a day number and its microseconds
 abbrev pub instant : ℤ → ℕ → Instant
@@ -26,15 +26,15 @@ day_at_index n = pos n -ℤ pos index_offset
 
 -- the refusals of an instant
 abbrev pub instant_cases : ℤ → ℕ → List Case
-instant_cases d m = case 8 (outside d) ∷ case 9 (leb day_micros m) ∷ []
+instant_cases d m = case Day (outside d) ∷ case Micros (leb day_micros m) ∷ []
 
 -- whether an instant is accepted: a refusal, or the index of its day
-unfoldable pub acceptance : ℤ → ℕ → Acceptance
-acceptance d m = refused_or NotAccepted (instant_cases d m) (Accepted (day_index d))
+unfoldable pub acceptance : ℤ → ℕ → Result ℕ Refusal
+acceptance d m = refused_or Err (instant_cases d m) (Ok (day_index d))
 
 -- an accepted instant: neither case applies
 abbrev pub IsAccepted : ℤ → ℕ → Type 0
-IsAccepted d m = acceptance d m ≡ Accepted (day_index d)
+IsAccepted d m = acceptance d m ≡ Ok (day_index d)
 
 -- the instant t microseconds after the instant d, m: its day number, and the microseconds of that day
 abbrev pub later_day : ℤ → ℕ → ℕ → ℤ

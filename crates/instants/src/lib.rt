@@ -1,6 +1,10 @@
 // Instants of Terrestrial Time: which are accepted, the instant some microseconds later, and the one number of microseconds that the sums count in.
 #![tactic(auto)]
 
+mod refusal;
+
+pub use refusal::Refusal;
+
 ghost use Rattle.std.specs.Prelude.{◌≡◌, ◌<◌};
 ghost use Rattle.instants.specs.Limits.{day_micros, days_covered};
 ghost use Rattle.instants.specs.Instants.{day_at_index, acceptance, IsAccepted};
@@ -33,31 +37,14 @@ pub struct Instant {
     pub micros: u64,
 }
 
-// The index of a day number, or that it is not in range.
-#[derive(Drop)]
-pub enum IndexAnswer {
-    AtIndex(u64),
-    NoIndex,
-}
-
-// What was accepted, as a number (the index of the day of an instant or a date, the microseconds of a time of day), or the refusal number.
-#[derive(Drop)]
-pub enum Acceptance {
-    Accepted(u64),
-    NotAccepted(u32),
-}
-
 // A day number's index from 1600-01-01, or that it is not in range: from here on a day is a natural number.
-pub fn day_index(day: i64) -> IndexAnswer
+pub fn day_index(day: i64) -> Option<u64>
     ensures { result ≡ index_answer day }
 {
-    if day < FIRST_DAY {
-        return IndexAnswer::NoIndex;
+    if (day < FIRST_DAY) | (LAST_DAY < day) {
+        return None;
     }
-    if LAST_DAY < day {
-        return IndexAnswer::NoIndex;
-    }
-    IndexAnswer::AtIndex((day + SIGNED_OFFSET) as u64)
+    Some((day + SIGNED_OFFSET) as u64)
 }
 
 // The day number of an index.
@@ -68,28 +55,36 @@ pub fn day_at_index(n: u64) -> i64
     (n as i64) - SIGNED_OFFSET
 }
 
-// Whether an instant is accepted: the index of its day, or refusal 8 or 9. Every service that is given an instant asks here.
-pub fn accept(day: i64, micros: u64) -> Acceptance
-    ensures { result ≡ acceptance day micros }
-{
-    let IndexAnswer::AtIndex(n) = day_index(day) else {
-        return Acceptance::NotAccepted(8);
-    };
-    if DAY_MICROS <= micros {
-        return Acceptance::NotAccepted(9);
+impl Instant {
+    // The index of the day of an accepted instant, or refusal 8 or 9. Every service that is given an instant asks here.
+    pub fn accept(self) -> Result<u64, Refusal>
+        ensures { result ≡ acceptance self.day self.micros }
+    {
+        let index = day_index(self.day).ok_or(Refusal::Day)?;
+        if DAY_MICROS <= self.micros {
+            return Err(Refusal::Micros);
+        }
+        Ok(index)
     }
-    Acceptance::Accepted(n)
-}
 
-// The instant t microseconds after an accepted instant.
-pub fn later(day: i64, micros: u64, t: u64) -> Instant
-    requires { LaterBounds day micros t }
-    ensures { result ≡ later_instant day micros t }
-{
-    let sum = micros + t;
-    Instant {
-        day: day + ((sum / DAY_MICROS) as i64),
-        micros: sum % DAY_MICROS,
+    // The instant t microseconds after an accepted one.
+    pub fn later(self, t: u64) -> Instant
+        requires { LaterBounds self.day self.micros t }
+        ensures { result ≡ later_instant self.day self.micros t }
+    {
+        let sum = self.micros + t;
+        Instant {
+            day: self.day + ((sum / DAY_MICROS) as i64),
+            micros: sum % DAY_MICROS,
+        }
+    }
+
+    // The moment of an accepted instant.
+    pub fn moment(self) -> u64
+        requires { IsAccepted self.day self.micros }
+        ensures { result ≡ moments.moment_of self.day self.micros }
+    {
+        moment((self.day + SIGNED_OFFSET) as u64, self.micros)
     }
 }
 
@@ -100,12 +95,4 @@ pub fn moment(index: u64, micros: u64) -> u64
     ensures { result ≡ moments.moment index micros }
 {
     (index + ORIGIN_DAYS) * DAY_MICROS + HALF_DAY + micros
-}
-
-// The moment of an accepted instant.
-pub fn moment_of(day: i64, micros: u64) -> u64
-    requires { IsAccepted day micros }
-    ensures { result ≡ moments.moment_of day micros }
-{
-    moment((day + SIGNED_OFFSET) as u64, micros)
 }

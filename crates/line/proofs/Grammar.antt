@@ -12,11 +12,10 @@ use lib.ListN.{length, get_or, take, drop, length-append, take-append-drop}
 use lib.Seq.{take-append-add, drop-append_seam, get_or-append_seam}
 use borrow.Author.Tests.{le-ltb, eq-eqb, ltb-false, eqb-true}
 use Rattle.line.specs.declared.Line.{Line}
-use Rattle.line.specs.declared.LineAnswer.{LineAnswer}
-use Rattle.line.specs.declared.LineAnswer.TheVariants.{Parsed, BadLine}
 use Rattle.line.specs.Lines.{is_digit, digits, decimal, Start, Number, NoNumber, ended_by, read_number, and_then, space, newline, line_of}
 use Rattle.line.specs.Grammar.{Writes, IsLine}
 use Rattle.line.proofs.Scanning.{impossible, digits_more, digits_none}
+use Rattle.std.specs.Prelude.{Option, Some, None}
 
 -- ---- a number
 
@@ -91,13 +90,13 @@ begins end s v r e = by (ltb (length (digits s)) 1) (ltb 10 (length (digits s)))
 -- ---- a line
 
 -- a line that goes on has found its number
-record Went (a : Start) (f : ℕ → List ℕ → LineAnswer) (l : Line) : Type 0 where
+record Went (a : Start) (f : ℕ → List ℕ → (Option Line)) (l : Line) : Type 0 where
   number : ℕ
   left : List ℕ
   found : a ≡ Number number left
-  then : f number left ≡ Parsed l
+  then : f number left ≡ Some l
 
-went : (a : Start) (f : ℕ → List ℕ → LineAnswer) (l : Line) → and_then a f ≡ Parsed l → Went a f l
+went : (a : Start) (f : ℕ → List ℕ → (Option Line)) (l : Line) → and_then a f ≡ Some l → Went a f l
 went (Number v r) f l e = record { number = v; left = r; found = refl; then = e }
 went NoNumber f l e = impossible (cc)
 
@@ -129,7 +128,7 @@ whole s s₁ s₂ s₃ s₄ s₅ y m d c e p₁ p₂ p₃ p₄ p₅ =
       is_step = p₅.writes;
     }
 
-is_line : (s : List ℕ) (l : Line) → line_of s ≡ Parsed l → IsLine s l
+is_line : (s : List ℕ) (l : Line) → line_of s ≡ Some l → IsLine s l
 unfolding line_of
 is_line s l e =
     let a = went (read_number space s) _ l e in
@@ -146,7 +145,7 @@ is_line s l e =
     (begins space c.left _ _ d.found)
     (begins newline d.left _ _ f.found))
 
-is_parsed : (s : List ℕ) (l : Line) → IsLine s l → line_of s ≡ Parsed l
+is_parsed : (s : List ℕ) (l : Line) → IsLine s l → line_of s ≡ Some l
 unfolding line_of
 is_parsed s l w =
     rw (w.bytes, apart)
@@ -160,21 +159,21 @@ is_parsed s l w =
 
 -- PROMISE. Bytes are parsed as five numbers exactly when they are those numbers, each of 1 to 10 digits (leading zeros are
 -- digits too), with one space between and a newline after, whatever follows. All other bytes are a bad line.
-pub parsed_exactly : (s : List ℕ) (l : Line) → line_of s ≡ Parsed l ↔ IsLine s l
+pub parsed_exactly : (s : List ℕ) (l : Line) → line_of s ≡ Some l ↔ IsLine s l
 parsed_exactly s l = (is_line s l, is_parsed s l)
 
 -- ---- how much of the bytes decides
 
-same_lines : (s t : List ℕ) → ((l : Line) → line_of s ≡ Parsed l → line_of t ≡ Parsed l) → ((l : Line) → line_of t ≡ Parsed l → line_of s ≡ Parsed l) → line_of s ≡ line_of t
+same_lines : (s t : List ℕ) → ((l : Line) → line_of s ≡ Some l → line_of t ≡ Some l) → ((l : Line) → line_of t ≡ Some l → line_of s ≡ Some l) → line_of s ≡ line_of t
 same_lines s t f g = by (line_of s) (line_of t) f g
   where
-    by : (a b : LineAnswer) → ((l : Line) → a ≡ Parsed l → b ≡ Parsed l) → ((l : Line) → b ≡ Parsed l → a ≡ Parsed l) → a ≡ b
-    by (Parsed l) b f g = sym (f l refl)
-    by BadLine (Parsed k) f g = g k refl
-    by BadLine BadLine f g = refl
+    by : (a b : (Option Line)) → ((l : Line) → a ≡ Some l → b ≡ Some l) → ((l : Line) → b ≡ Some l → a ≡ Some l) → a ≡ b
+    by (Some l) b f g = sym (f l refl)
+    by None (Some k) f g = g k refl
+    by None None f g = refl
 
 -- the same line with other bytes after it
-with_rest : {s : List ℕ} {l : Line} (w : IsLine s l) (t r : List ℕ) → t ≡ w.year ++ space ∷ w.month ++ space ∷ w.day ++ space ∷ w.count ++ space ∷ w.step ++ newline ∷ r → line_of t ≡ Parsed l
+with_rest : {s : List ℕ} {l : Line} (w : IsLine s l) (t r : List ℕ) → t ≡ w.year ++ space ∷ w.month ++ space ∷ w.day ++ space ∷ w.count ++ space ∷ w.step ++ newline ∷ r → line_of t ≡ Some l
 with_rest {s} {l} w t r e =
     is_parsed t l
     (record {
@@ -196,13 +195,13 @@ with_rest {s} {l} w t r e =
 pub first_bytes : (s : List ℕ) → line_of (take 55 s) ≡ line_of s
 first_bytes s = same_lines (take 55 s) s longer shorter
   where
-    longer : (l : Line) → line_of (take 55 s) ≡ Parsed l → line_of s ≡ Parsed l
+    longer : (l : Line) → line_of (take 55 s) ≡ Some l → line_of s ≡ Some l
     longer l e =
         let w = is_line (take 55 s) l e in
         let p : List ℕ = w.year ++ space ∷ w.month ++ space ∷ w.day ++ space ∷ w.count ++ space ∷ w.step in
         with_rest w s (w.rest ++ drop 55 s) (sym (take-append-drop 55 s) ∙ (ap (λ (t : List ℕ). t ++ drop 55 s) w.bytes ∙ append_assoc p (newline ∷ w.rest) (drop 55 s)))
 
-    shorter : (l : Line) → line_of s ≡ Parsed l → line_of (take 55 s) ≡ Parsed l
+    shorter : (l : Line) → line_of s ≡ Some l → line_of (take 55 s) ≡ Some l
     shorter l e =
         let w = is_line s l e in
         let p : List ℕ = w.year ++ space ∷ w.month ++ space ∷ w.day ++ space ∷ w.count ++ space ∷ w.step in
@@ -212,12 +211,12 @@ first_bytes s = same_lines (take 55 s) s longer shorter
         (ap (take 55) w.bytes ∙ (ap (λ (j : ℕ). take j (p ++ newline ∷ w.rest)) k ∙ take-append-add p (newline ∷ w.rest) (suc (54 - length p))))
 
 -- bytes with no newline among them are a bad line
-pub no_newline : (s : List ℕ) → ((i : ℕ) → get_or s i 0 ≡ newline → ⊥) → line_of s ≡ BadLine
+pub no_newline : (s : List ℕ) → ((i : ℕ) → get_or s i 0 ≡ newline → ⊥) → line_of s ≡ None
 no_newline s none = by (line_of s) refl
   where
-    by : (a : LineAnswer) → line_of s ≡ a → a ≡ BadLine
-    by BadLine e = refl
-    by (Parsed l) e =
+    by : (a : (Option Line)) → line_of s ≡ a → a ≡ None
+    by None e = refl
+    by (Some l) e =
         let w = is_line s l e in
         let p : List ℕ = w.year ++ space ∷ w.month ++ space ∷ w.day ++ space ∷ w.count ++ space ∷ w.step in
         absurd (none (length p) (ap (λ (t : List ℕ). get_or t (length p) 0) w.bytes ∙ get_or-append_seam p newline w.rest 0))

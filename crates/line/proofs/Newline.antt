@@ -7,9 +7,10 @@ use native.Mathlib.Omega.{arith}
 use lib.Dec.{eqb, ltb}
 use lib.ListN.{length, drop}
 use lib.Seq.{drop-append-le}
-use Rattle.line.specs.declared.LineAnswer.{LineAnswer}
 use Rattle.line.specs.Lines.{is_digit, digits, decimal, Start, Number, NoNumber, ended_by, read_number, and_then, space, newline, line_of}
 use Rattle.line.proofs.Scanning.{digits_more, digits_none}
+use Rattle.std.specs.Prelude.{Option}
+use Rattle.line.specs.declared.Line.{Line}
 
 -- a list's digits, with a newline after the list
 digits_newline : (s t : List ℕ) → (digits (s ++ newline ∷ t) ≡ digits s) × (length (digits s) ≤ length s)
@@ -31,13 +32,13 @@ number_newline end s t =
     let d = digits_newline s t in
     rw (d.0, drop-append-le (length (digits s)) s (newline ∷ t) d.1)
 
-pick : (v : ℕ) (x y : List ℕ) (f g : ℕ → List ℕ → LineAnswer) → f v x ≡ g v y → (a : Bool) → and_then (cond a (Number v x) NoNumber) f ≡ and_then (cond a (Number v y) NoNumber) g
+pick : (v : ℕ) (x y : List ℕ) (f g : ℕ → List ℕ → (Option Line)) → f v x ≡ g v y → (a : Bool) → and_then (cond a (Number v x) NoNumber) f ≡ and_then (cond a (Number v y) NoNumber) g
 pick v x y f g h true = h
 pick v x y f g h false = refl
 
 module _ (t u : List ℕ) where
   -- two ways on that agree, whether the newline ends the number or comes later
-  step : (end : ℕ) (s : List ℕ) (f g : ℕ → List ℕ → LineAnswer) → ((v : ℕ) → and_then (ended_by end v (newline ∷ t)) f ≡ and_then (ended_by end v (newline ∷ u)) g)
+  step : (end : ℕ) (s : List ℕ) (f g : ℕ → List ℕ → (Option Line)) → ((v : ℕ) → and_then (ended_by end v (newline ∷ t)) f ≡ and_then (ended_by end v (newline ∷ u)) g)
       → ((v : ℕ) (r : List ℕ) → f v (r ++ newline ∷ t) ≡ g v (r ++ newline ∷ u)) → and_then (read_number end (s ++ newline ∷ t)) f ≡ and_then (read_number end (s ++ newline ∷ u)) g
   unfolding begin
   step end s f g k h =

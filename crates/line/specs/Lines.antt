@@ -1,7 +1,6 @@
 -- The program's line (docs/RULES.md): year, month, day, count and step in seconds, as decimal numbers.
-use Rattle.std.specs.Prelude.{ℕ, ◌+◌, ◌-◌, ◌*◌, Bool, cond, ◌&&◌, List, [], ◌∷◌, eqb, ltb, leb, length, drop}
-use Rattle.line.specs.declared.LineAnswer.{LineAnswer}
-use Rattle.line.specs.declared.LineAnswer.TheVariants.{Parsed, BadLine}
+use Rattle.std.specs.Prelude.{ℕ, ◌+◌, ◌-◌, ◌*◌, Bool, cond, ◌&&◌, List, [], ◌∷◌, eqb, ltb, leb, length, drop, Option, Some, None}
+use Rattle.line.specs.declared.Line.{Line}
 
 -- a byte that is a decimal digit
 abbrev pub is_digit : ℕ → Bool
@@ -39,9 +38,9 @@ read_number end s =
     (ended_by end (decimal (digits s)) (drop (length (digits s)) s)))
 
 -- what f makes of a number and the bytes after it; with no number, a bad line
-abbrev pub and_then : Start → (ℕ → List ℕ → LineAnswer) → LineAnswer
+abbrev pub and_then : Start → (ℕ → List ℕ → (Option Line)) → Option Line
 and_then (Number v s) f = f v s
-and_then NoNumber f = BadLine
+and_then NoNumber f = None
 
 -- the byte that ends each of the first four numbers
 abbrev pub space : ℕ
@@ -52,11 +51,11 @@ abbrev pub newline : ℕ
 newline = 10
 
 -- the line at the front of s: five numbers, a space after each of the first four and a newline after the last
-unfoldable pub line_of : List ℕ → LineAnswer
+unfoldable pub line_of : List ℕ → Option Line
 line_of s =
     and_then (read_number space s) (λ year s₁.
     and_then (read_number space s₁) (λ month s₂.
     and_then (read_number space s₂) (λ day s₃.
     and_then (read_number space s₃) (λ count s₄.
     and_then (read_number newline s₄) (λ step s₅.
-    Parsed (record { year = year; month = month; day = day; count = count; step = step }))))))
+    Some (record { year = year; month = month; day = day; count = count; step = step }))))))

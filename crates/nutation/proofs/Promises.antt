@@ -17,7 +17,6 @@ use Rattle.sine.specs.Ours.{alternating, sine_quarter, quarter_turn, our_sine, o
 use Rattle.instants.specs.Moments.{moment_of}
 use Rattle.rows.specs.declared.Row.{Row}
 use Rattle.nutation.specs.declared.Offsets.{Offsets}
-use Rattle.nutation.specs.declared.NutationAnswer.TheVariants.{Nutation, NoNutation}
 use Rattle.rows.specs.Table.{AcceptedTable}
 use Rattle.rows.specs.BuiltIn.{built_in}
 use Rattle.rows.specs.Places.{started, place, span}
@@ -29,6 +28,7 @@ use Rattle.row_bytes.specs.Form.{table_bytes, table_in, bytes_cases, AcceptedByt
 use Rattle.row_bytes.proofs.Forms.{accepted_none, table_held}
 use Rattle.row_bytes.proofs.Round.{table_back, table_accepted}
 use Rattle.nutation.proofs.Distance.{offsets_near}
+use Rattle.std.specs.Prelude.{Ok, Err}
 
 -- ---- accepted instants
 
@@ -38,12 +38,12 @@ near_here rows t d m a = offsets_near rows t (moment_of d m) (accepted_le d m a)
 -- With any accepted table the answer at every accepted instant is given, both offsets within 2 nanoarcseconds of the exact ones and the uncertainty
 -- exact.
 answer_near : (rows : List Row) → AcceptedTable rows → (d : ℤ) (m : ℕ) → IsAccepted d m
-    → (o : Offsets) × (nutation_with rows d m ≡ Nutation o) × OffsetsNear rows (moment_of d m) o
-answer_near rows t d m a = (our_offsets rows (moment_of d m), sym (answered_too NoNutation _ d m a), near_here rows t d m a)
+    → (o : Offsets) × (nutation_with rows d m ≡ Ok o) × OffsetsNear rows (moment_of d m) o
+answer_near rows t d m a = (our_offsets rows (moment_of d m), sym (answered_too Err _ d m a), near_here rows t d m a)
 
 -- PROMISE. The service's answer at every accepted instant is given, of the built-in rows: both offsets within 2 nanoarcseconds of the exact ones and the
 -- uncertainty exact.
-pub nutation_near : (d : ℤ) (m : ℕ) → IsAccepted d m → (o : Offsets) × (nutation_of d m ≡ Nutation o) × OffsetsNear built_in (moment_of d m) o
+pub nutation_near : (d : ℤ) (m : ℕ) → IsAccepted d m → (o : Offsets) × (nutation_of d m ≡ Ok o) × OffsetsNear built_in (moment_of d m) o
 unfolding nutation_of
 nutation_near d m a = answer_near built_in built_in_accepted d m a
 
@@ -52,7 +52,7 @@ nutation_near d m a = answer_near built_in built_in_accepted d m a
 -- PROMISE. With accepted bytes the service is that over their rows, at every instant, a refused one too.
 pub rows_answered : (s : List ℕ) → AcceptedBytes s → (d : ℤ) (m : ℕ) → nutation_rows_of s d m ≡ nutation_with (table_in s) d m
 unfolding nutation_rows_of
-rows_answered s e d m = none_answered NoNutation (bytes_cases s) _ (accepted_none s e)
+rows_answered s e d m = none_answered Err (bytes_cases s) _ (accepted_none s e)
 
 -- PROMISE. Accepted rows, written as bytes, are answered as those rows are.
 pub rows_alike : (rows : List Row) → AcceptedTable rows → (d : ℤ) (m : ℕ) → nutation_rows_of (table_bytes rows) d m ≡ nutation_with rows d m
@@ -66,7 +66,7 @@ built_in_alike = (table_accepted built_in built_in_accepted, rows_alike built_in
 -- PROMISE. With accepted bytes the answer at every accepted instant is given, of their rows: both offsets within 2 nanoarcseconds of the exact ones and
 -- the uncertainty exact.
 pub rows_near : (s : List ℕ) → AcceptedBytes s → (d : ℤ) (m : ℕ) → IsAccepted d m
-    → (o : Offsets) × (nutation_rows_of s d m ≡ Nutation o) × OffsetsNear (table_in s) (moment_of d m) o
+    → (o : Offsets) × (nutation_rows_of s d m ≡ Ok o) × OffsetsNear (table_in s) (moment_of d m) o
 rows_near s e d m a = let n = answer_near (table_in s) (table_held s e) d m a in (n.0, rows_answered s e d m ∙ n.1, n.2)
 
 -- ---- no constant

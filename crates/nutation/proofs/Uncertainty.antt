@@ -27,12 +27,12 @@ use Rattle.rows.proofs.Interpolated.{parts_positive, weighted, above}
 use Rattle.row_bytes.specs.Form.{table_in, bytes_cases, AcceptedBytes}
 use Rattle.row_bytes.proofs.Forms.{table_held}
 use Rattle.nutation.specs.declared.Offsets.{Offsets}
-use Rattle.nutation.specs.declared.NutationAnswer.{NutationAnswer}
-use Rattle.nutation.specs.declared.NutationAnswer.TheVariants.{Nutation, NoNutation}
 use Rattle.nutation.specs.Exact.{u_value, u_parts, round_up, uncertainty_at, exact_uncertainty}
 use Rattle.nutation.specs.Ours.{offsets_at, nutation_with, nutation_of, nutation_rows_of, uncertainty_of}
 use Rattle.nutation.proofs.Rounding.{value_natural, round_up_low}
 use Rattle.nutation.proofs.Promises.{nutation_near, rows_near}
+use Rattle.std.specs.Prelude.{Result, Ok, Err}
+use Rattle.instants.specs.declared.refusal.Refusal.{Refusal}
 
 -- ---- between two rows
 
@@ -87,8 +87,8 @@ u_natural (Between a b) x = a.uncertainty * (row_moment b - x) + b.uncertainty *
 abbrev pub offsets_by : (Place → ℕ → ℕ) → Place → ℕ → Offsets
 offsets_by u p x = record { x = (offsets_at p x).x; y = (offsets_at p x).y; uncertainty = round_up (2 * (10 * u p x)) (u_parts p) }
 
-abbrev pub answer_by : (Place → ℕ → ℕ) → List Row → ℤ → ℕ → NutationAnswer
-answer_by u rows d m = refused_or NoNutation (instant_cases d m) (Nutation (offsets_by u (place rows (moment_of d m)) (moment_of d m)))
+abbrev pub answer_by : (Place → ℕ → ℕ) → List Row → ℤ → ℕ → Result Offsets Refusal
+answer_by u rows d m = refused_or Err (instant_cases d m) (Ok (offsets_by u (place rows (moment_of d m)) (moment_of d m)))
 
 value_same : (p : Place) (x : ℕ) → Placed p x → u_value p x ≡ u_natural p x
 value_same (End r) x h = refl
@@ -96,7 +96,7 @@ value_same (Between a b) x h = value_natural a b x h.2
 
 answer_same : (rows : List Row) → AcceptedTable rows → (d : ℤ) (m : ℕ) → nutation_with rows d m ≡ answer_by u_natural rows d m
 unfolding offsets_at uncertainty_at
-answer_same rows t d m = ap (λ (k : ℕ). refused_or NoNutation (instant_cases d m) (Nutation (offsets_by (λ _ _. k) (place rows (moment_of d m)) (moment_of d m))))
+answer_same rows t d m = ap (λ (k : ℕ). refused_or Err (instant_cases d m) (Ok (offsets_by (λ _ _. k) (place rows (moment_of d m)) (moment_of d m))))
     (value_same (place rows (moment_of d m)) (moment_of d m) (placed rows t (moment_of d m)))
 
 -- The service's answer to every input is what it would be without the absolute value.
@@ -105,8 +105,8 @@ unfolding nutation_of
 nutation_same = answer_same built_in built_in_accepted
 
 -- And so is the answer with the caller's rows, to any bytes.
-pub rows_same : (s : List ℕ) (d : ℤ) (m : ℕ) → nutation_rows_of s d m ≡ refused_or NoNutation (bytes_cases s) (answer_by u_natural (table_in s) d m)
+pub rows_same : (s : List ℕ) (d : ℤ) (m : ℕ) → nutation_rows_of s d m ≡ refused_or Err (bytes_cases s) (answer_by u_natural (table_in s) d m)
 unfolding nutation_rows_of
 rows_same s d m =
-    in_both_lem (λ (x y : NutationAnswer). x ≡ y) NoNutation NoNutation (bytes_cases s) _ _ (λ n. refl)
+    in_both_lem (λ (x y : (Result Offsets Refusal)). x ≡ y) Err Err (bytes_cases s) _ _ (λ n. refl)
     (λ h. answer_same (table_in s) (table_held s (none_answered (λ n. n) (bytes_cases s) 0 h)) d m)

@@ -1,7 +1,7 @@
 -- Our offsets in whole numbers, at the moment x. An angle is in units of 2^-41 turn, a sine in units of 2^-31, an amplitude in units
 -- of 2^-10 hundredths of a microarcsecond. Quotients are rounded down, and the offsets to the nearest whole nanoarcsecond.
 -- Derived from the IERS routine FCNNUT; not IERS Conventions software (NOTICE, docs/DIFFERENCES.md).
-use Rattle.std.specs.Prelude.{List, ℕ, ◌*◌, ◌-◌, ◌/◌, ◌%◌, ◌^◌, ℤ, pos, neg_ℤ, ◌+ℤ◌, ◌-ℤ◌, ◌*ℤ◌}
+use Rattle.std.specs.Prelude.{List, ℕ, ◌*◌, ◌-◌, ◌/◌, ◌%◌, ◌^◌, ℤ, pos, neg_ℤ, ◌+ℤ◌, ◌-ℤ◌, ◌*ℤ◌, Result, Ok, Err}
 use Rattle.std.specs.Int.Signed.{shr_z}
 use Rattle.algebra.specs.Integers.{+◌}
 use Rattle.instants.specs.Refusals.{refused_or}
@@ -16,9 +16,8 @@ use Rattle.rows.specs.BuiltIn.{built_in}
 use Rattle.rows.specs.Places.{row_moment, place, span}
 use Rattle.row_bytes.specs.Form.{table_in, bytes_cases}
 use Rattle.nutation.specs.declared.Offsets.{Offsets}
-use Rattle.nutation.specs.declared.NutationAnswer.{NutationAnswer}
-use Rattle.nutation.specs.declared.NutationAnswer.TheVariants.{Nutation, NoNutation}
 use Rattle.nutation.specs.Exact.{uncertainty_at}
+use Rattle.instants.specs.declared.refusal.Refusal.{Refusal}
 
 -- ---- the angle, of x
 
@@ -83,41 +82,41 @@ our_offsets rows x = offsets_at (place rows x) x
 -- ---- the answer at an instant
 
 -- refused by 8 or 9, or the offsets at the instant's moment
-abbrev pub nutation_with : List Row → ℤ → ℕ → NutationAnswer
-nutation_with rows d m = refused_or NoNutation (instant_cases d m) (Nutation (our_offsets rows (moment_of d m)))
+abbrev pub nutation_with : List Row → ℤ → ℕ → Result Offsets Refusal
+nutation_with rows d m = refused_or Err (instant_cases d m) (Ok (our_offsets rows (moment_of d m)))
 
 -- the service: with the built-in rows
-unfoldable pub nutation_of : ℤ → ℕ → NutationAnswer
+unfoldable pub nutation_of : ℤ → ℕ → Result Offsets Refusal
 nutation_of d m = nutation_with built_in d m
 
 -- and with the rows in the bytes s: refused by 21 to 24 before the instant is looked at
-unfoldable pub nutation_rows_of : List ℕ → ℤ → ℕ → NutationAnswer
-nutation_rows_of s d m = refused_or NoNutation (bytes_cases s) (nutation_with (table_in s) d m)
+unfoldable pub nutation_rows_of : List ℕ → ℤ → ℕ → Result Offsets Refusal
+nutation_rows_of s d m = refused_or Err (bytes_cases s) (nutation_with (table_in s) d m)
 
 -- the numbers of an answer, or z where it is a refusal: what the call of the whole answer leaves where z was
-abbrev pub x_or : ℤ → NutationAnswer → ℤ
-x_or z (Nutation o) = o.x
-x_or z (NoNutation r) = z
+abbrev pub x_or : ℤ → Result Offsets Refusal → ℤ
+x_or z (Ok o) = o.x
+x_or z (Err r) = z
 
-abbrev pub y_or : ℤ → NutationAnswer → ℤ
-y_or z (Nutation o) = o.y
-y_or z (NoNutation r) = z
+abbrev pub y_or : ℤ → Result Offsets Refusal → ℤ
+y_or z (Ok o) = o.y
+y_or z (Err r) = z
 
-abbrev pub uncertainty_or : ℕ → NutationAnswer → ℕ
-uncertainty_or z (Nutation o) = o.uncertainty
-uncertainty_or z (NoNutation r) = z
+abbrev pub uncertainty_or : ℕ → Result Offsets Refusal → ℕ
+uncertainty_or z (Ok o) = o.uncertainty
+uncertainty_or z (Err r) = z
 
 -- what the call of one number gives: 0 beside a refusal
-abbrev pub x_of : NutationAnswer → ℤ
+abbrev pub x_of : Result Offsets Refusal → ℤ
 x_of = x_or (+ 0)
 
-abbrev pub y_of : NutationAnswer → ℤ
+abbrev pub y_of : Result Offsets Refusal → ℤ
 y_of = y_or (+ 0)
 
-abbrev pub uncertainty_of : NutationAnswer → ℕ
+abbrev pub uncertainty_of : Result Offsets Refusal → ℕ
 uncertainty_of = uncertainty_or 0
 
 -- the refusal number, 0 for none
-abbrev pub nutation_refusal_of : NutationAnswer → ℕ
-nutation_refusal_of (Nutation o) = 0
-nutation_refusal_of (NoNutation r) = r
+abbrev pub nutation_refusal_of : Result Offsets Refusal → ℕ
+nutation_refusal_of (Ok o) = 0
+nutation_refusal_of (Err r) = r

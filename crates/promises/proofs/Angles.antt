@@ -17,18 +17,19 @@ use Rattle.calendar.specs.Dates.{leap_year, month_lengths, sum, year_length}
 use Rattle.binary64.specs.Words.{whole, zero64, decimal64}
 use Rattle.binary64.specs.Reduction.{raised, settled, reduced}
 use Rattle.schwiderski.specs.declared.Angles.{Angles}
-use Rattle.schwiderski.specs.declared.AnglesAnswer.TheVariants.{AtAngles, NoAngles}
 use Rattle.schwiderski.specs.Formula.{two_pi, degree, whole_day, seconds, leap_days, day_count, centuries, sun, moon, perigee, longitudes, angle_sum, sums, reduced_each, angles_of}
 use Rattle.schwiderski.specs.Service.{in_year, angles_cases, schwiderski_of, angles_or, angle_of, angles_refusal_of}
 use Rattle.schwiderski.proofs.Promises.{accepted_answered, answered_accepted, angles_in_range, nothing_lost, days_counted}
 use Rattle.schwiderski.proofs.Published.{published}
 use Rattle.promises.specs.AnyInput.{refusal1_angles, refusal26, eleven}
 use Rattle.promises.specs.Angles.{AnglesExactly}
+use Rattle.std.specs.Prelude.{Ok, Err}
+use Rattle.instants.specs.declared.refusal.Refusal.TheVariants.{DayOfYear}
 
 -- ---- demand 1
 pub handed_angles : (y : ℕ) (d : Float) → angles_refusal_of (schwiderski_of y d) ≡ first_refusal (angles_cases y d)
 unfolding schwiderski_of
-handed_angles y d = handed_on NoAngles angles_refusal_of (λ n. refl) (angles_cases y d) _
+handed_angles y d = handed_on Err angles_refusal_of (λ n. refl) (angles_cases y d) _
 
 -- the leap years of a century and a quarter
 leap_in_figures : (y : ℕ) → 1974 ≤ y → y ≤ 2100 → leap_year y ≡ eqb (y % 4) 0 && not (eqb y 2100)
@@ -57,20 +58,20 @@ unfolding in_year year_length
 angles y d = handed_angles y d ∙ by (ltb y 1974 || ltb 2100 y) refl
   where
     by : (p : Bool) → (ltb y 1974 || ltb 2100 y) ≡ p
-        → cond p 1 (first_refusal (case 26 (not (in_year y d)) ∷ [])) ≡ cond p 1 (first_refusal (refusal26 y d ∷ []))
+        → cond p 1 (first_refusal (case DayOfYear (not (in_year y d)) ∷ [])) ≡ cond p 1 (first_refusal (refusal26 y d ∷ []))
     by true e = refl
     by false e =
         let b = between y 1974 2100 e in
-        ap (λ (n : ℕ). first_refusal (case 26 (not (le (whole (pos 1)) d && lt d (whole (pos n)))) ∷ [])) (ends (leap_year y) ∙ ap (λ (l : Bool). cond l 367 366) (leap_in_figures y b.0 b.1))
+        ap (λ (n : ℕ). first_refusal (case DayOfYear (not (le (whole (pos 1)) d && lt d (whole (pos n)))) ∷ [])) (ends (leap_year y) ∙ ap (λ (l : Bool). cond l 367 366) (leap_in_figures y b.0 b.1))
 
 module _ (y : ℕ) (d : Float) where
-  answered : angles_refusal_of (schwiderski_of y d) ≡ 0 → schwiderski_of y d ≡ AtAngles (angles_of (y - 1900) d)
+  answered : angles_refusal_of (schwiderski_of y d) ≡ 0 → schwiderski_of y d ≡ Ok (angles_of (y - 1900) d)
   unfolding schwiderski_of
-  answered z = none_answered NoAngles (angles_cases y d) _ (first_none (angles_cases y d) tt (sym (handed_angles y d) ∙ z))
+  answered z = none_answered Err (angles_cases y d) _ (first_none (angles_cases y d) tt (sym (handed_angles y d) ∙ z))
 
-  refused : (angles_refusal_of (schwiderski_of y d) ≡ 0 → ⊥) → schwiderski_of y d ≡ NoAngles (first_refusal (angles_cases y d))
+  refused : (angles_refusal_of (schwiderski_of y d) ≡ 0 → ⊥) → schwiderski_of y d ≡ Err (first_refusal (angles_cases y d))
   unfolding schwiderski_of
-  refused h = refused_first NoAngles (angles_cases y d) _ (λ z. h (handed_angles y d ∙ z))
+  refused h = refused_first Err (angles_cases y d) _ (λ z. h (handed_angles y d ∙ z))
 
   pub angles_same : angles_refusal_of (schwiderski_of y d) ≡ 0 → (old : List Float) → angles_or old (schwiderski_of y d) ≡ eleven (schwiderski_of y d)
   angles_same z old = ap (angles_or old) (answered z) ∙ sym (ap eleven (answered z))

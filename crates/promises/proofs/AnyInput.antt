@@ -11,22 +11,15 @@ use Rattle.instants.specs.Instants.{outside, instant_cases}
 use Rattle.instants.proofs.FirstRefusal.{handed_on, none_answered, refused_first, numbered, first_none}
 use Rattle.calendar.specs.Dates.{date_cases, day_of, day_cases, date_of, day_number_or, date_refusal_of, year_or, month_or, day_of_month_or, day_refusal_of}
 use Rattle.calendar.specs.Times.{time_cases, instant_of, instant_day_or, instant_micros_or, instant_refusal_of}
-use Rattle.calendar.specs.declared.DayAnswer.TheVariants.{NoDay}
-use Rattle.calendar.specs.declared.DateAnswer.TheVariants.{NoDate}
-use Rattle.calendar.specs.declared.InstantAnswer.TheVariants.{NoInstant}
 use Rattle.instants.specs.Moments.{moment_of}
 use Rattle.utc.specs.Readings.{reading_cases}
 use Rattle.utc.specs.Conversions as utc
 use Rattle.utc.specs.declared.Reading.{Reading}
-use Rattle.utc.specs.declared.ReadingAnswer.TheVariants.{NoReading}
 use Rattle.clock.specs.Words.{split_of, join_cases, join_of, day_word_or, time_word_or, split_refusal_of, joined_day_or, joined_micros_or, join_refusal_of}
-use Rattle.clock.specs.declared.SplitAnswer.TheVariants.{NoSplit}
-use Rattle.clock.specs.declared.JoinAnswer.TheVariants.{NoJoin}
 use Rattle.binary64.specs.Words.{zero64}
 use Rattle.tide.specs.Tidal as tide
 use Rattle.tide.specs.declared.Doodson.{Doodson}
 use Rattle.tide.specs.declared.Constituent.{Constituent}
-use Rattle.tide.specs.declared.TideAnswer.{TideAnswer}
 use Rattle.tide.specs.declared.TideAnswer.TheVariants as tideCase
 use Rattle.tide.proofs.Promises.{in_full}
 use Rattle.zonal.specs.Ours as zonal
@@ -35,7 +28,6 @@ use Rattle.row_places.proofs.Probes.{probes_refused, rows_probes_refused}
 use Rattle.nutation.specs.Ours as nutation
 use Rattle.nutation.specs.declared.NutationAnswer.TheVariants as nutationCase
 use Rattle.record.specs.Records.{write_cases, write_refusal, read_cases, read_of, record_day_or, record_micros_or, record_ut1_or, record_lod_or, record_rate_or, read_refusal_of}
-use Rattle.record.specs.declared.ReadAnswer.TheVariants.{NoRecord}
 use Rattle.record.proofs.Kept as kept
 use Rattle.run.specs.Run.{run_cases, run_refusal}
 use Rattle.run.proofs.Records as records
@@ -48,28 +40,30 @@ use Rattle.promises.proofs.Files.{compare}
 use Rattle.promises.proofs.Rows.{handed_rows, rows_offsets}
 use Rattle.promises.proofs.Utc.{handed_readings, utc_to_tt, phase, handed_instants, tt_to_utc}
 use Rattle.promises.specs.AnyInput.{Number, AnyInputIsAnswered}
+use Rattle.std.specs.Prelude.{Result, Err}
+use Rattle.instants.specs.declared.refusal.Refusal.{Refusal}
 
 -- ---- the refusals
 
 date_to_day : (y m d : ℕ) → date_refusal_of (day_of y m d) ≡ first_refusal (date_cases y m d)
 unfolding day_of
-date_to_day y m d = handed_on NoDay date_refusal_of (λ n. refl) (date_cases y m d) _
+date_to_day y m d = handed_on Err date_refusal_of (λ n. refl) (date_cases y m d) _
 
 day_to_date : (z : ℤ) → day_refusal_of (date_of z) ≡ first_refusal (day_cases z)
 unfolding date_of
-day_to_date z = handed_on NoDate day_refusal_of (λ n. refl) (day_cases z) _
+day_to_date z = handed_on Err day_refusal_of (λ n. refl) (day_cases z) _
 
 date_and_time : (y m d h n s u : ℕ) → instant_refusal_of (instant_of y m d h n s u) ≡ first_refusal (date_cases y m d ++ time_cases 59 h n s u)
 unfolding instant_of
-date_and_time y m d h n s u = handed_on NoInstant instant_refusal_of (λ n. refl) (date_cases y m d ++ time_cases 59 h n s u) _
+date_and_time y m d h n s u = handed_on Err instant_refusal_of (λ n. refl) (date_cases y m d ++ time_cases 59 h n s u) _
 
 split : (d : ℤ) (m : ℕ) → split_refusal_of (split_of d m) ≡ first_refusal (instant_cases d m)
 unfolding split_of
-split d m = handed_on NoSplit split_refusal_of (λ n. refl) (instant_cases d m) _
+split d m = handed_on Err split_refusal_of (λ n. refl) (instant_cases d m) _
 
 join : (d : ℤ) (t : ℕ) → join_refusal_of (join_of d t) ≡ first_refusal (join_cases d t)
 unfolding join_of
-join d t = handed_on NoJoin join_refusal_of (λ n. refl) (join_cases d t) _
+join d t = handed_on Err join_refusal_of (λ n. refl) (join_cases d t) _
 
 corrections : (d : ℤ) (m : ℕ) → zonal.zonal_refusal_of (zonal.zonal_of d m) ≡ first_refusal (instant_cases d m)
 unfolding zonal.zonal_of
@@ -85,7 +79,7 @@ write d m n = refl
 
 read : (s : List ℕ) → read_refusal_of (read_of s) ≡ first_refusal (read_cases s)
 unfolding read_of
-read s = handed_on NoRecord read_refusal_of (λ n. refl) (read_cases s) _
+read s = handed_on Err read_refusal_of (λ n. refl) (read_cases s) _
 
 run : (d : ℤ) (m count step n : ℕ) → run_refusal d m count step n ≡ first_refusal (run_cases d m count step n)
 unfolding run_refusal
@@ -111,10 +105,10 @@ module _ {A : Type 0} (refuse : ℕ → A) (refusal : A → ℕ) (cs : List Case
 
 -- those of a phase, by the equation of its answer
 module _ (r : Reading) (k : Doodson) where
-  phase_number : (left : Float → TideAnswer → Float) → ((n : ℕ) (old : Float) → left old (tideCase.NoTide n) ≡ old) → ((x : Constituent) (old : Float) → left old (tideCase.Tide x) ≡ left zero64 (tideCase.Tide x))
+  phase_number : (left : Float → Result Constituent Refusal → Float) → ((n : ℕ) (old : Float) → left old (tideCase.NoTide n) ≡ old) → ((x : Constituent) (old : Float) → left old (tideCase.Tide x) ≡ left zero64 (tideCase.Tide x))
       → Number tide.tide_refusal_of (left zero64) left zero64 (tide.tide_of r k)
   phase_number left stays gives =
-      subst (λ (a : TideAnswer). Number tide.tide_refusal_of (left zero64) left zero64 a) (sym (in_full r k))
+      subst (λ (a : (Result Constituent Refusal)). Number tide.tide_refusal_of (left zero64) left zero64 a) (sym (in_full r k))
       (number tideCase.NoTide tide.tide_refusal_of (reading_cases r ++ tide.range_cases k) _ (handed_on tideCase.NoTide tide.tide_refusal_of (λ n. refl) (reading_cases r ++ tide.range_cases k) _) tt
       left zero64 stays (gives _))
 
@@ -123,27 +117,27 @@ pub any_input_is_answered : AnyInputIsAnswered
 unfolding outside day_of date_of instant_of utc.tt_of utc.utc_of split_of join_of zonal.zonal_of nutation.nutation_of nutation.nutation_rows_of read_of kept_count ranges_in
 any_input_is_answered = record {
   date_to_day = date_to_day;
-  date_to_day_numbers = λ y m d. number NoDay date_refusal_of (date_cases y m d) _ (date_to_day y m d) tt day_number_or (pos 0) (λ _ _. refl) (λ _. refl);
+  date_to_day_numbers = λ y m d. number Err date_refusal_of (date_cases y m d) _ (date_to_day y m d) tt day_number_or (pos 0) (λ _ _. refl) (λ _. refl);
   day_to_date = day_to_date;
   day_to_date_numbers = λ z. (
-    number NoDate day_refusal_of (day_cases z) _ (day_to_date z) tt year_or 0 (λ _ _. refl) (λ _. refl),
-    number NoDate day_refusal_of (day_cases z) _ (day_to_date z) tt month_or 0 (λ _ _. refl) (λ _. refl),
-    number NoDate day_refusal_of (day_cases z) _ (day_to_date z) tt day_of_month_or 0 (λ _ _. refl) (λ _. refl),
+    number Err day_refusal_of (day_cases z) _ (day_to_date z) tt year_or 0 (λ _ _. refl) (λ _. refl),
+    number Err day_refusal_of (day_cases z) _ (day_to_date z) tt month_or 0 (λ _ _. refl) (λ _. refl),
+    number Err day_refusal_of (day_cases z) _ (day_to_date z) tt day_of_month_or 0 (λ _ _. refl) (λ _. refl),
   );
   date_and_time = date_and_time;
   date_and_time_numbers = λ y m d h n s u. (
-    number NoInstant instant_refusal_of (date_cases y m d ++ time_cases 59 h n s u) _ (date_and_time y m d h n s u) tt instant_day_or (pos 0) (λ _ _. refl) (λ _. refl),
-    number NoInstant instant_refusal_of (date_cases y m d ++ time_cases 59 h n s u) _ (date_and_time y m d h n s u) tt instant_micros_or 0 (λ _ _. refl) (λ _. refl),
+    number Err instant_refusal_of (date_cases y m d ++ time_cases 59 h n s u) _ (date_and_time y m d h n s u) tt instant_day_or (pos 0) (λ _ _. refl) (λ _. refl),
+    number Err instant_refusal_of (date_cases y m d ++ time_cases 59 h n s u) _ (date_and_time y m d h n s u) tt instant_micros_or 0 (λ _ _. refl) (λ _. refl),
   );
   split = split;
   split_numbers = λ d m. (
-    number NoSplit split_refusal_of (instant_cases d m) _ (split d m) tt day_word_or (pos 0) (λ _ _. refl) (λ _. refl),
-    number NoSplit split_refusal_of (instant_cases d m) _ (split d m) tt time_word_or 0 (λ _ _. refl) (λ _. refl),
+    number Err split_refusal_of (instant_cases d m) _ (split d m) tt day_word_or (pos 0) (λ _ _. refl) (λ _. refl),
+    number Err split_refusal_of (instant_cases d m) _ (split d m) tt time_word_or 0 (λ _ _. refl) (λ _. refl),
   );
   join = join;
   join_numbers = λ d t. (
-    number NoJoin join_refusal_of (join_cases d t) _ (join d t) tt joined_day_or (pos 0) (λ _ _. refl) (λ _. refl),
-    number NoJoin join_refusal_of (join_cases d t) _ (join d t) tt joined_micros_or 0 (λ _ _. refl) (λ _. refl),
+    number Err join_refusal_of (join_cases d t) _ (join d t) tt joined_day_or (pos 0) (λ _ _. refl) (λ _. refl),
+    number Err join_refusal_of (join_cases d t) _ (join d t) tt joined_micros_or 0 (λ _ _. refl) (λ _. refl),
   );
   phase = phase;
   phase_numbers = λ r k. (phase_number r k tide.frequency_or (λ _ _. refl) (λ _ _. refl), phase_number r k tide.phase_or (λ _ _. refl) (λ _ _. refl));
@@ -171,28 +165,28 @@ any_input_is_answered = record {
   record_write_keeps = kept.refused_unchanged;
   record_read = read;
   record_read_numbers = λ s. (
-    number NoRecord read_refusal_of (read_cases s) _ (read s) tt record_day_or (pos 0) (λ _ _. refl) (λ _. refl),
-    number NoRecord read_refusal_of (read_cases s) _ (read s) tt record_micros_or 0 (λ _ _. refl) (λ _. refl),
-    number NoRecord read_refusal_of (read_cases s) _ (read s) tt record_ut1_or (pos 0) (λ _ _. refl) (λ _. refl),
-    number NoRecord read_refusal_of (read_cases s) _ (read s) tt record_lod_or (pos 0) (λ _ _. refl) (λ _. refl),
-    number NoRecord read_refusal_of (read_cases s) _ (read s) tt record_rate_or (pos 0) (λ _ _. refl) (λ _. refl),
+    number Err read_refusal_of (read_cases s) _ (read s) tt record_day_or (pos 0) (λ _ _. refl) (λ _. refl),
+    number Err read_refusal_of (read_cases s) _ (read s) tt record_micros_or 0 (λ _ _. refl) (λ _. refl),
+    number Err read_refusal_of (read_cases s) _ (read s) tt record_ut1_or (pos 0) (λ _ _. refl) (λ _. refl),
+    number Err read_refusal_of (read_cases s) _ (read s) tt record_lod_or (pos 0) (λ _ _. refl) (λ _. refl),
+    number Err read_refusal_of (read_cases s) _ (read s) tt record_rate_or (pos 0) (λ _ _. refl) (λ _. refl),
   );
   run_write = run;
   run_write_keeps = records.refused_unchanged;
   utc_to_tt = utc_to_tt;
   utc_to_tt_numbers = λ r. (
-    number NoInstant instant_refusal_of (reading_cases r) _ (handed_readings r) tt instant_day_or (pos 0) (λ _ _. refl) (λ _. refl),
-    number NoInstant instant_refusal_of (reading_cases r) _ (handed_readings r) tt instant_micros_or 0 (λ _ _. refl) (λ _. refl),
+    number Err instant_refusal_of (reading_cases r) _ (handed_readings r) tt instant_day_or (pos 0) (λ _ _. refl) (λ _. refl),
+    number Err instant_refusal_of (reading_cases r) _ (handed_readings r) tt instant_micros_or 0 (λ _ _. refl) (λ _. refl),
   );
   tt_to_utc = tt_to_utc;
   tt_to_utc_numbers = λ d m. (
-    number NoReading utc.reading_refusal_of (instant_cases d m ++ utc.moment_cases (moment_of d m)) _ (handed_instants d m) tt utc.reading_year_or 0 (λ _ _. refl) (λ _. refl),
-    number NoReading utc.reading_refusal_of (instant_cases d m ++ utc.moment_cases (moment_of d m)) _ (handed_instants d m) tt utc.reading_month_or 0 (λ _ _. refl) (λ _. refl),
-    number NoReading utc.reading_refusal_of (instant_cases d m ++ utc.moment_cases (moment_of d m)) _ (handed_instants d m) tt utc.reading_day_or 0 (λ _ _. refl) (λ _. refl),
-    number NoReading utc.reading_refusal_of (instant_cases d m ++ utc.moment_cases (moment_of d m)) _ (handed_instants d m) tt utc.reading_hour_or 0 (λ _ _. refl) (λ _. refl),
-    number NoReading utc.reading_refusal_of (instant_cases d m ++ utc.moment_cases (moment_of d m)) _ (handed_instants d m) tt utc.reading_minute_or 0 (λ _ _. refl) (λ _. refl),
-    number NoReading utc.reading_refusal_of (instant_cases d m ++ utc.moment_cases (moment_of d m)) _ (handed_instants d m) tt utc.reading_second_or 0 (λ _ _. refl) (λ _. refl),
-    number NoReading utc.reading_refusal_of (instant_cases d m ++ utc.moment_cases (moment_of d m)) _ (handed_instants d m) tt utc.reading_microsecond_or 0 (λ _ _. refl) (λ _. refl),
+    number Err utc.reading_refusal_of (instant_cases d m ++ utc.moment_cases (moment_of d m)) _ (handed_instants d m) tt utc.reading_year_or 0 (λ _ _. refl) (λ _. refl),
+    number Err utc.reading_refusal_of (instant_cases d m ++ utc.moment_cases (moment_of d m)) _ (handed_instants d m) tt utc.reading_month_or 0 (λ _ _. refl) (λ _. refl),
+    number Err utc.reading_refusal_of (instant_cases d m ++ utc.moment_cases (moment_of d m)) _ (handed_instants d m) tt utc.reading_day_or 0 (λ _ _. refl) (λ _. refl),
+    number Err utc.reading_refusal_of (instant_cases d m ++ utc.moment_cases (moment_of d m)) _ (handed_instants d m) tt utc.reading_hour_or 0 (λ _ _. refl) (λ _. refl),
+    number Err utc.reading_refusal_of (instant_cases d m ++ utc.moment_cases (moment_of d m)) _ (handed_instants d m) tt utc.reading_minute_or 0 (λ _ _. refl) (λ _. refl),
+    number Err utc.reading_refusal_of (instant_cases d m ++ utc.moment_cases (moment_of d m)) _ (handed_instants d m) tt utc.reading_second_or 0 (λ _ _. refl) (λ _. refl),
+    number Err utc.reading_refusal_of (instant_cases d m ++ utc.moment_cases (moment_of d m)) _ (handed_instants d m) tt utc.reading_microsecond_or 0 (λ _ _. refl) (λ _. refl),
   );
   rescue = rescue_refusal;
   rescue_zeroed = rescue_zeroed;

@@ -12,12 +12,10 @@ use Rattle.instants.specs.Instants.{instant, outside, day_index, day_at_index, a
 use Rattle.instants.specs.Moments.{moment_of}
 use Rattle.instants.specs.declared.Instant.{Instant}
 use Rattle.calendar.specs.Dates.{leap_year, month_lengths, month_length, sum, year_length, days_of_years, days_before, date_index}
-use Rattle.calendar.specs.declared.InstantAnswer.TheVariants.{AtInstant}
 use Rattle.utc.specs.Table.{first_step, later_steps, begun, tai_minus_utc, is_eve, has_second60}
 use Rattle.utc.specs.Readings.{reading, reading_micros, AcceptedReading}
 use Rattle.utc.specs.Conversions.{tt_of, day_begins, utc_of}
 use Rattle.utc.specs.declared.Reading.{Reading}
-use Rattle.utc.specs.declared.ReadingAnswer.TheVariants.{NoReading}
 use Rattle.utc.proofs.Steps.{table_rule_lem}
 use Rattle.utc.proofs.Inverse.{reading_there_and_back, instant_there_and_back}
 use Rattle.utc.proofs.Unique.{accepted_answered, answered_accepted, tt_accepted, one_reading, refused_unread, unread_refused}
@@ -28,7 +26,6 @@ use Rattle.clock.proofs.Words.{split_accepted, split_then_join, JoinedExactly, j
 use Rattle.binary64.specs.Words.{whole}
 use Rattle.tide.specs.Tidal.{day_fraction, centuries, arguments_of, constituent_of, all_in_range, tide_of}
 use Rattle.tide.specs.declared.Doodson.{Doodson}
-use Rattle.tide.specs.declared.TideAnswer.TheVariants.{Tide}
 use Rattle.tide.proofs.Promises.{frequency_finite, phase_in_turn, at_instant, zeros_give_zero, fraction_from_one}
 use Rattle.tide.proofs.Published.{published}
 use Rattle.rows.specs.declared.Row.{Row}
@@ -60,25 +57,27 @@ use Rattle.promises.proofs.Rescued.{rescued_exactly}
 use Rattle.promises.proofs.Angles.{angles_exactly}
 use Rattle.promises.proofs.Compared.{compared_exactly}
 use Rattle.promises.specs.Exactness.{KeepsRules, Exactness}
+use Rattle.std.specs.Prelude.{Ok, Err}
+use Rattle.instants.specs.declared.refusal.Refusal.TheVariants.{UtcEarly, UtcExpired}
 
 -- ---- some readings and instants, computed
 
 readings :
-    (tt_of (reading 2009 6 25 0 0 0 0) ≡ AtInstant (instant (pos 55007) 66_184_000))
-    × (tt_of (reading 2016 12 31 23 59 60 500_000) ≡ AtInstant (instant (pos 57754) 68_684_000))
-    × (tt_of (reading 1972 1 1 0 0 0 0) ≡ AtInstant (instant (pos 41317) 42_184_000))
-    × (tt_of (reading 2025 6 27 23 59 59 999_999) ≡ AtInstant (instant (pos 60854) 69_183_999))
+    (tt_of (reading 2009 6 25 0 0 0 0) ≡ Ok (instant (pos 55007) 66_184_000))
+    × (tt_of (reading 2016 12 31 23 59 60 500_000) ≡ Ok (instant (pos 57754) 68_684_000))
+    × (tt_of (reading 1972 1 1 0 0 0 0) ≡ Ok (instant (pos 41317) 42_184_000))
+    × (tt_of (reading 2025 6 27 23 59 59 999_999) ≡ Ok (instant (pos 60854) 69_183_999))
 unfolding tt_of tai_minus_utc begun first_step later_steps has_second60 is_eve day_at_index month_length date_index days_of_years days_before year_length sum month_lengths leap_year
 readings = (refl, refl, refl, refl)
 
-before_and_after : (utc_of (pos 41317) 42_183_999 ≡ NoReading 19) × (utc_of (pos 60854) 69_184_000 ≡ NoReading 20)
+before_and_after : (utc_of (pos 41317) 42_183_999 ≡ Err UtcEarly) × (utc_of (pos 60854) 69_184_000 ≡ Err UtcExpired)
 unfolding utc_of day_begins outside day_index tai_minus_utc begun first_step later_steps date_index days_of_years days_before year_length sum month_lengths leap_year
 before_and_after = (refl, refl)
 
 -- ---- the instant for phases of a reading
 
-corrected : (r : Reading) (t : Instant) (k : Doodson) → tt_of r ≡ AtInstant t → T (all_in_range k)
-    → tide_of r k ≡ Tide (constituent_of (arguments_of (day_fraction (reading_micros r)) (centuries t.day (day_fraction t.micros))) k)
+corrected : (r : Reading) (t : Instant) (k : Doodson) → tt_of r ≡ Ok t → T (all_in_range k)
+    → tide_of r k ≡ Ok (constituent_of (arguments_of (day_fraction (reading_micros r)) (centuries t.day (day_fraction t.micros))) k)
 corrected r t k e = at_instant (record { tt = t; utc = r; together = e }) k
 
 past_the_day : (r : Reading) → AcceptedReading r → 59 < r.second → (reading_micros r ≡ 86_400_000_000 + r.microsecond) × T (le (whole (pos 1)) (day_fraction (reading_micros r)))

@@ -11,8 +11,6 @@ use lib.Seq.{drop-drop}
 use borrow.Author.Tests.{ne_eqb}
 use Rattle.instants.specs.Refusals.{Case, case, first_refusal}
 use Rattle.instants.proofs.FirstRefusal.{NoneApplies, first_behind}
-use Rattle.record.specs.declared.ReadAnswer.{ReadAnswer}
-use Rattle.record.specs.declared.ReadAnswer.TheVariants.{IsRecord, NoRecord}
 use Rattle.record.specs.Format.{record_length}
 use Rattle.record.specs.Records.{read_of, is_record, read_refusal_of}
 use Rattle.record.proofs.Unrefused.{refusal_numbered, read_accepted}
@@ -23,6 +21,10 @@ use Rattle.instants.proofs.Order.{moment_order}
 use Rattle.compare.specs.Compare.{entries_of, compare_of, compare_refusal_of}
 use Rattle.compare.proofs.Promises.{compare_refusal}
 use Rattle.promises.specs.AnyInput.{refusal12, cases_below, read_at, record_refusals, not_before, refusal28, file_refusals}
+use Rattle.std.specs.Prelude.{Result, Ok, Err}
+use Rattle.record.specs.declared.Record.{Record}
+use Rattle.instants.specs.declared.refusal.Refusal.{Refusal}
+use Rattle.instants.specs.declared.refusal.Refusal.TheVariants.{FileOrder}
 
 -- ---- by place
 
@@ -49,15 +51,15 @@ cases_same (suc n) f g h = ap₂ (λ (c : Case) (cs : List Case). c ∷ cs) (h 0
 -- ---- reading
 
 -- the case of an answer, by its refusal number
-abbrev case_of : ReadAnswer → Case
+abbrev case_of : Result Record Refusal → Case
 case_of a = case (read_refusal_of a) (not (eqb (read_refusal_of a) 0))
 
 read_case : (s : List ℕ) → case (read_refusal_of (read_of s)) (not (is_record (read_of s))) ≡ case_of (read_of s)
 read_case s = by (read_of s) refl
   where
-    by : (a : ReadAnswer) → read_of s ≡ a → case (read_refusal_of a) (not (is_record a)) ≡ case_of a
-    by (IsRecord r) e = refl
-    by (NoRecord n) e = ap (λ (b : Bool). case n (not b)) (sym (ne_eqb n 0 (refusal_numbered s n e)))
+    by : (a : (Result Record Refusal)) → read_of s ≡ a → case (read_refusal_of a) (not (is_record a)) ≡ case_of a
+    by (Ok r) e = refl
+    by (Err n) e = ap (λ (b : Bool). case n (not b)) (sym (ne_eqb n 0 (refusal_numbered s n e)))
 
 reading : (n : ℕ) (s : List ℕ) → reading_cases (answers n s) ≡ cases_below n (λ k. case_of (read_at s k))
 reading zero s = refl
@@ -76,9 +78,9 @@ order : (n : ℕ) (s : List ℕ) → NoneApplies (reading_cases (answers n s)) �
 order zero s h = refl
 order (suc zero) s h = by (read_of s) h
   where
-    by : (a : ReadAnswer) → NoneApplies (reading_cases (a ∷ [])) → not (rises (records_among (a ∷ []))) ≡ false
-    by (IsRecord r) h = refl
-    by (NoRecord m) h = refl
+    by : (a : (Result Record Refusal)) → NoneApplies (reading_cases (a ∷ [])) → not (rises (records_among (a ∷ []))) ≡ false
+    by (Ok r) h = refl
+    by (Err m) h = refl
 order (suc (suc n)) s h = by (read_of s) refl (read_of (drop record_length s)) refl h (order (suc n) (drop record_length s))
   where
     f : ℕ → Bool
@@ -93,14 +95,14 @@ order (suc (suc n)) s h = by (read_of s) refl (read_of (drop record_length s)) r
     less : (k : ℕ) → suc k - 1 ≡ k
     less k = omega arith
 
-    more : List ReadAnswer
+    more : List (Result Record Refusal)
     more = answers n (drop record_length (drop record_length s))
 
-    by : (a : ReadAnswer) → read_of s ≡ a → (b : ReadAnswer) → read_of (drop record_length s) ≡ b → NoneApplies (reading_cases (a ∷ b ∷ more))
+    by : (a : (Result Record Refusal)) → read_of s ≡ a → (b : (Result Record Refusal)) → read_of (drop record_length s) ≡ b → NoneApplies (reading_cases (a ∷ b ∷ more))
         → (NoneApplies (reading_cases (b ∷ more)) → not (rises (records_among (b ∷ more))) ≡ some_below (suc n - 1) g) → not (rises (records_among (a ∷ b ∷ more))) ≡ some_below (suc (suc n) - 1) f
-    by (NoRecord m) p b q h i = absurd (true≢false h.0)
-    by (IsRecord r) p (NoRecord m) q h i = absurd (true≢false h.1.0)
-    by (IsRecord r) p (IsRecord u) q h i =
+    by (Err m) p b q h i = absurd (true≢false h.0)
+    by (Ok r) p (Err m) q h i = absurd (true≢false h.1.0)
+    by (Ok r) p (Ok u) q h i =
         let o = moment_order r.day r.micros u.day u.micros (read_accepted s r p) (read_accepted (drop record_length s) u q) in
         neither (ltb (when r) (when u)) (rises (u ∷ records_among more))
         ∙ (ap₂ ◌||◌ (ap not o ∙ sym (ap₂ not_before p q)) (i h.1 ∙ (ap (λ (k : ℕ). some_below k g) (less n) ∙ some_same g (λ k. f (suc k)) n (λ k _. one_on k)))
@@ -117,7 +119,7 @@ file_figures s more =
     first_behind (length_cases (length s)) ((R ++ O) ++ more) ((record_refusals s ++ refusal28 s ∷ []) ++ more)
     (λ _.
     ap first_refusal (append_assoc R O more)
-    ∙ (first_behind R (O ++ more) (refusal28 s ∷ more) (λ h. ap (λ (b : Bool). first_refusal (case 28 b ∷ more)) (order n s h))
+    ∙ (first_behind R (O ++ more) (refusal28 s ∷ more) (λ h. ap (λ (b : Bool). first_refusal (case FileOrder b ∷ more)) (order n s h))
     ∙ (ap (λ (cs : List Case). first_refusal (cs ++ refusal28 s ∷ more)) (reading n s)
     ∙ ap first_refusal (sym (append_assoc (record_refusals s) (refusal28 s ∷ []) more)))))
 

@@ -25,9 +25,10 @@ use Rattle.rows.specs.Table.{row_at, day_out, not_after, number_out, some_below,
 use Rattle.rows.proofs.Accepted.{some_same}
 use Rattle.row_bytes.specs.Form.{version_field, version, head_length, row_length, form_length, at_least0, row_in, row_count, table_in, bytes_cases}
 use Rattle.row_bytes.proofs.Reading.{table_count, table_at}
-use Rattle.nutation.specs.declared.NutationAnswer.TheVariants.{NoNutation}
 use Rattle.nutation.specs.Ours.{nutation_rows_of, nutation_refusal_of}
 use Rattle.promises.specs.AnyInput.{table_length, table_rows, table_day, table_Xc, table_Xs, table_uncertainty, beyond, refusal21, refusal22, refusal23, refusal24}
+use Rattle.std.specs.Prelude.{Err}
+use Rattle.instants.specs.declared.refusal.Refusal.TheVariants.{RowsVersion, RowsDay, RowsSize}
 
 -- ---- the length
 
@@ -143,7 +144,7 @@ numbers s =
 
 -- ---- all of them
 
-versions : (s : List ℕ) → case 22 (not (eqb (field_at s version_field) version)) ≡ refusal22 s
+versions : (s : List ℕ) → case RowsVersion (not (eqb (field_at s version_field) version)) ≡ refusal22 s
 versions s = refl
 
 figures : (s : List ℕ) (d : ℤ) (m : ℕ) → first_refusal (bytes_cases s ++ instant_cases d m) ≡ first_refusal (refusal21 s ∷ refusal22 s ∷ refusal23 s ∷ refusal24 s ∷ instant_cases d m)
@@ -151,15 +152,15 @@ figures s d m =
     let n : ℕ = length s in
     let a : Bool = ltb n 3 in
     let b : Bool = not (eqb (number_at s 0 2) n) in
-    let behind : ℕ = first_refusal (case 22 (not (eqb (field_at s version_field) version)) ∷ table_cases (table_in s) ++ instant_cases d m) in
+    let behind : ℕ = first_refusal (case RowsVersion (not (eqb (field_at s version_field) version)) ∷ table_cases (table_in s) ++ instant_cases d m) in
     five a b (ltb (row_count n) 2) (ltb 200 (row_count n)) (not (eqb n (form_length (row_count n)))) 21 behind
     ∙ ap (λ (t : Bool). cond (a || (b || t)) 21 behind) (lengths n)
     ∙ ap (λ (c : Case). first_refusal (refusal21 s ∷ c ∷ table_cases (table_in s) ++ instant_cases d m)) (versions s)
-    ∙ ap₂ (λ (x y : Bool). first_refusal (refusal21 s ∷ refusal22 s ∷ case 23 x ∷ case 24 y ∷ instant_cases d m)) (days s) (numbers s)
+    ∙ ap₂ (λ (x y : Bool). first_refusal (refusal21 s ∷ refusal22 s ∷ case RowsDay x ∷ case RowsSize y ∷ instant_cases d m)) (days s) (numbers s)
 
 pub handed_rows : (s : List ℕ) (d : ℤ) (m : ℕ) → nutation_refusal_of (nutation_rows_of s d m) ≡ first_refusal (bytes_cases s ++ instant_cases d m)
 unfolding nutation_rows_of
-handed_rows s d m = handed_on NoNutation nutation_refusal_of (λ n. refl) (bytes_cases s ++ instant_cases d m) _
+handed_rows s d m = handed_on Err nutation_refusal_of (λ n. refl) (bytes_cases s ++ instant_cases d m) _
 
 pub rows_offsets : (s : List ℕ) (d : ℤ) (m : ℕ) → nutation_refusal_of (nutation_rows_of s d m) ≡ first_refusal (refusal21 s ∷ refusal22 s ∷ refusal23 s ∷ refusal24 s ∷ instant_cases d m)
 rows_offsets s d m = handed_rows s d m ∙ figures s d m

@@ -17,7 +17,6 @@ use Rattle.instants.proofs.Accepted.{AcceptedAt, none_accepted, accepted}
 use Rattle.instants.proofs.Order.{moment_order}
 use Rattle.calendar.specs.Dates.{date, leap_year, month_lengths, sum, month_length, year_length, days_of_years, days_before, date_index, date_cases}
 use Rattle.calendar.specs.Times.{time_cases, instant_refusal_of}
-use Rattle.calendar.specs.declared.InstantAnswer.TheVariants.{NoInstant}
 use Rattle.calendar.proofs.Dates.{Valid}
 use Rattle.calendar.proofs.Inverse.{none_date, valid}
 use Rattle.calendar.proofs.Order.{earlier_index}
@@ -25,15 +24,14 @@ use Rattle.utc.specs.Table.{first_step, later_steps, expiry}
 use Rattle.utc.specs.Readings.{reading_index, last_second, cover_cases, reading_cases}
 use Rattle.utc.specs.Conversions.{tt_of, moment_cases, utc_of, reading_refusal_of}
 use Rattle.utc.specs.declared.Reading.{Reading}
-use Rattle.utc.specs.declared.ReadingAnswer.TheVariants.{NoReading}
 use Rattle.utc.proofs.Days.{first_begins, expiry_begins}
 use Rattle.utc.specs.Claims.{eve_of, eves_of}
 use Rattle.utc.proofs.Eves.{has_second_60}
 use Rattle.tide.specs.Tidal.{all_in_range, range_cases, tide_of, tide_refusal_of}
 use Rattle.tide.specs.declared.Doodson.{Doodson}
-use Rattle.tide.specs.declared.TideAnswer.TheVariants.{NoTide}
 use Rattle.tide.proofs.Promises.{in_full}
 use Rattle.promises.specs.AnyInput.{refusal4, refusal5, refusal6_utc, refusal7, refusal11, refusal19_utc, refusal20_utc, reading_refusals, refusal19_tt, refusal20_tt, days_with_second60}
+use Rattle.std.specs.Prelude.{Err}
 
 -- PROMISE. The 27 days of the figures are the days before the steps after the first.
 pub eves : T (eves_of days_with_second60 later_steps)
@@ -78,7 +76,7 @@ module _ (r : Reading) where
 
   pub handed_readings : instant_refusal_of (tt_of r) ≡ first_refusal (reading_cases r)
   unfolding tt_of
-  handed_readings = handed_on NoInstant instant_refusal_of (λ n. refl) (reading_cases r) _
+  handed_readings = handed_on Err instant_refusal_of (λ n. refl) (reading_cases r) _
 
   pub utc_to_tt : instant_refusal_of (tt_of r) ≡ first_refusal (reading_refusals r)
   utc_to_tt = handed_readings ∙ in_figures []
@@ -86,7 +84,7 @@ module _ (r : Reading) where
   -- a phase
   pub phase : (k : Doodson) → tide_refusal_of (tide_of r k) ≡ first_refusal (reading_refusals r ++ (refusal11 k ∷ []))
   unfolding all_in_range
-  phase k = ap tide_refusal_of (in_full r k) ∙ handed_on NoTide tide_refusal_of (λ n. refl) (reading_cases r ++ range_cases k) _ ∙ in_figures (range_cases k)
+  phase k = ap tide_refusal_of (in_full r k) ∙ handed_on Err tide_refusal_of (λ n. refl) (reading_cases r ++ range_cases k) _ ∙ in_figures (range_cases k)
 
 -- ---- an instant
 
@@ -109,7 +107,7 @@ module _ (d : ℤ) (m : ℕ) where
 
   pub handed_instants : reading_refusal_of (utc_of d m) ≡ first_refusal (instant_cases d m ++ moment_cases (moment_of d m))
   unfolding utc_of
-  handed_instants = handed_on NoReading reading_refusal_of (λ n. refl) (instant_cases d m ++ moment_cases (moment_of d m)) _
+  handed_instants = handed_on Err reading_refusal_of (λ n. refl) (instant_cases d m ++ moment_cases (moment_of d m)) _
 
   pub tt_to_utc : reading_refusal_of (utc_of d m) ≡ first_refusal (instant_cases d m ++ (refusal19_tt d m ∷ refusal20_tt d m ∷ []))
   tt_to_utc = handed_instants ∙ first_behind (instant_cases d m) (moment_cases (moment_of d m)) (refusal19_tt d m ∷ refusal20_tt d m ∷ []) (λ n. covered (none_accepted d m n))

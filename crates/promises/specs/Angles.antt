@@ -1,24 +1,23 @@
 -- Demand 2, of service (j): the eleven Schwiderski angles. Which years and days are answered, and by what; then what holds of every answer and of the
 -- formula.
-use Rattle.std.specs.Prelude.{ℕ, ◌+◌, ◌-◌, ◌≤◌, ◌≡◌, false, true, T, pos, negsuc, neg_ℤ, ◌-ℤ◌, Float}
+use Rattle.std.specs.Prelude.{ℕ, ◌+◌, ◌-◌, ◌≤◌, ◌≡◌, false, true, T, pos, negsuc, neg_ℤ, ◌-ℤ◌, Float, Ok}
 use Rattle.std.specs.Float.{nan, inf, fin, binary64}
 use Rattle.std.specs.Float.Ieee.{rem}
 use Rattle.calendar.specs.Dates.{year_length, days_of_years}
 use Rattle.binary64.specs.Words.{zero64, plus}
 use Rattle.binary64.specs.Claims.{Finite, InRange}
 use Rattle.schwiderski.specs.declared.Angles.{Angles}
-use Rattle.schwiderski.specs.declared.AnglesAnswer.TheVariants.{AtAngles}
 use Rattle.schwiderski.specs.Formula.{two_pi, leap_days, day_count, longitudes, sums, angles_of}
 use Rattle.schwiderski.specs.Service.{schwiderski_of, angles_refusal_of}
 use Rattle.schwiderski.specs.Claims.{Every, InDays, as_published}
 
 pub record AnglesExactly : Type 0 where
   -- a day of a year from 1974 to 2100 is answered by the formula with the year minus 1900, and nothing else is answered
-  pub accepted_angles : (y : ℕ) (x : Float) → 1974 ≤ y → y ≤ 2100 → InDays (year_length y) x → schwiderski_of y x ≡ AtAngles (angles_of (y - 1900) x)
-  pub answered_angles : (y : ℕ) (x : Float) (a : Angles) → schwiderski_of y x ≡ AtAngles a → (1974 ≤ y) × (y ≤ 2100) × InDays (year_length y) x × (a ≡ angles_of (y - 1900) x)
+  pub accepted_angles : (y : ℕ) (x : Float) → 1974 ≤ y → y ≤ 2100 → InDays (year_length y) x → schwiderski_of y x ≡ Ok (angles_of (y - 1900) x)
+  pub answered_angles : (y : ℕ) (x : Float) (a : Angles) → schwiderski_of y x ≡ Ok a → (1974 ≤ y) × (y ≤ 2100) × InDays (year_length y) x × (a ≡ angles_of (y - 1900) x)
   -- each of the eleven is a finite number of the sign +, below two-pi, and none was a NaN or an infinity before it was reduced
-  pub angles_in_range : (y : ℕ) (x : Float) (a : Angles) → schwiderski_of y x ≡ AtAngles a → Every (InRange two_pi) a
-  pub angle_sums_finite : (y : ℕ) (x : Float) (a : Angles) → schwiderski_of y x ≡ AtAngles a → Every Finite (sums (longitudes (y - 1900) x))
+  pub angles_in_range : (y : ℕ) (x : Float) (a : Angles) → schwiderski_of y x ≡ Ok a → Every (InRange two_pi) a
+  pub angle_sums_finite : (y : ℕ) (x : Float) (a : Angles) → schwiderski_of y x ≡ Ok a → Every Finite (sums (longitudes (y - 1900) x))
   -- the formula with 8 and the day 311.5 gives the eleven published numbers, within 10^-7; whole quotients are cut toward zero, so that it has -16 leap
   -- days there and counts -24160 days; in the years that are answered its count is the calendar's, from 1974-12-31 on
   pub published_angles : T (as_published (angles_of 8 (plus 1 311_5)))

@@ -1,16 +1,15 @@
 -- Demand 2, of service (k): what differs between two record files. First what a file is, then which instants are listed, with which entry, and in which order;
 -- then the number and the list of an answer.
-use Rattle.std.specs.Prelude.{ℕ, ◌*◌, ◌≤◌, ◌≡◌, true, List, [], ◌∷◌, ◌++◌, map, ℤ, pos, negsuc, ◌-ℤ◌, length, drop}
+use Rattle.std.specs.Prelude.{ℕ, ◌*◌, ◌≤◌, ◌≡◌, true, List, [], ◌∷◌, ◌++◌, map, ℤ, pos, negsuc, ◌-ℤ◌, length, drop, Ok, Err}
 use Rattle.record.specs.declared.Record.{Record}
-use Rattle.record.specs.declared.ReadAnswer.TheVariants.{IsRecord}
 use Rattle.record.specs.Records.{read_of, record_day_of, record_micros_of}
 use Rattle.files.specs.Files.{IsFile, file_of, file_refusal_of}
 use Rattle.compare.specs.declared.Entry.{Entry}
-use Rattle.compare.specs.declared.CompareAnswer.TheVariants.{Compared, NoComparison}
 use Rattle.compare.specs.Walk.{entry}
 use Rattle.compare.specs.Compare.{entries_of, list_bytes, compare_of, list_after, entries_number_of, compare_refusal_of}
 use Rattle.compare.specs.Claims.{There, Nowhere, record_of_instant, entry_of_instant, exchanged, listed}
 use Rattle.promises.specs.AnyInput.{instant_before}
+use Rattle.instants.specs.declared.refusal.Refusal.TheVariants.{BufferShort, RecordVersion, FileLength, FileOrder}
 
 -- the files s and t have the records rs and qs
 pub record Files (s t : List ℕ) (rs qs : List Record) : Type 0 where
@@ -20,7 +19,7 @@ pub record Files (s t : List ℕ) (rs qs : List Record) : Type 0 where
 pub record ComparedExactly : Type 0 where
   -- a file is thirty bytes for each record, which is what they read as; its instants rise; an empty one is accepted
   pub file_length : (s : List ℕ) (rs : List Record) → file_of s ≡ IsFile rs → length s ≡ 30 * length rs
-  pub file_reads : (s : List ℕ) (rs : List Record) → file_of s ≡ IsFile rs → (k : ℕ) (r : Record) (more : List Record) → drop k rs ≡ r ∷ more → read_of (drop (30 * k) s) ≡ IsRecord r
+  pub file_reads : (s : List ℕ) (rs : List Record) → file_of s ≡ IsFile rs → (k : ℕ) (r : Record) (more : List Record) → drop k rs ≡ r ∷ more → read_of (drop (30 * k) s) ≡ Ok r
   pub file_rises : (s : List ℕ) (rs : List Record) → file_of s ≡ IsFile rs → (k : ℕ) (r q : Record) (more : List Record) → drop k rs ≡ r ∷ q ∷ more
       → instant_before r.day r.micros q.day q.micros ≡ true
   pub file_empty : file_of [] ≡ IsFile []
@@ -44,7 +43,7 @@ pub record ComparedExactly : Type 0 where
   pub entries_there : (s t : List ℕ) (rs qs : List Record) → Files s t rs qs → (k : ℕ) (e : Entry) (more : List Entry) → drop k (entries_of s t) ≡ e ∷ more
       → entry_of_instant e.day e.micros (entries_of s t) ≡ There e
   -- a file and itself give an empty list, whatever the list's room; and an empty list says that the records are the same
-  pub same_file : (s : List ℕ) (n : ℕ) → file_refusal_of (file_of s) ≡ 0 → compare_of s s n ≡ Compared 0
+  pub same_file : (s : List ℕ) (n : ℕ) → file_refusal_of (file_of s) ≡ 0 → compare_of s s n ≡ Ok 0
   pub same_records : (s t : List ℕ) (rs qs : List Record) → Files s t rs qs → entries_of s t ≡ [] → rs ≡ qs
   -- the files exchanged: sides exchanged and differences negated, entry by entry
   pub files_exchanged : (s t : List ℕ) → entries_of t s ≡ map exchanged (entries_of s t)
@@ -59,10 +58,10 @@ pub record ComparedExactly : Type 0 where
   -- there are such files, of three records each: with an entry of each side, a difference that 32 bits do not hold, and room for them or a byte less
   pub some_files : (s : List ℕ) × (t : List ℕ) × (length s ≡ 90) × (length t ≡ 90)
       × (entries_of s t ≡ entry 1 (pos 54465) 0 (pos 0) (pos 0) (pos 0) ∷ entry 3 (pos 54465) 900_000_000 (pos 4_294_967_295) (pos 0) (negsuc 0) ∷ entry 2 (pos 54466) 0 (pos 0) (pos 0) (pos 0) ∷ [])
-      × (compare_of s t 111 ≡ Compared 3) × (compare_of s t 110 ≡ NoComparison 12)
+      × (compare_of s t 111 ≡ Ok 3) × (compare_of s t 110 ≡ Err BufferShort)
   -- and such as are refused: one record twice is refused by 28, and one byte by 27, whichever comes first
   pub some_refused : (s : List ℕ) × (t : List ℕ) × (length s ≡ 60) × (read_of s ≡ read_of (drop 30 s)) × (length t ≡ 1)
-      × (compare_of s t 0 ≡ NoComparison 28) × (compare_of t s 0 ≡ NoComparison 27)
+      × (compare_of s t 0 ≡ Err FileOrder) × (compare_of t s 0 ≡ Err FileLength)
   -- and one whose first two instants fall and whose third record has another version, by 14
   pub some_unread : (s : List ℕ) × (instant_before (record_day_of (read_of (drop 30 s))) (record_micros_of (read_of (drop 30 s))) (record_day_of (read_of s)) (record_micros_of (read_of s)) ≡ true)
-      × (compare_of s [] 0 ≡ NoComparison 14) × (compare_of [] s 0 ≡ NoComparison 14)
+      × (compare_of s [] 0 ≡ Err RecordVersion) × (compare_of [] s 0 ≡ Err RecordVersion)

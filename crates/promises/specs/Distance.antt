@@ -2,7 +2,7 @@
 -- exact sums over all 62 rows, in service (e) and in a run, and both offsets within 2 nanoarcseconds of the exact ones, with the built-in rows and
 -- with the caller's. The sine and cosine that they are made of are within 20 units of 2^-31 of the exact ones. A distance is over a denominator
 -- that is above 0.
-use Rattle.std.specs.Prelude.{ℕ, ◌*◌, ◌^◌, ◌≤◌, ◌<◌, ◌≡◌, List, [], ◌∷◌, ℤ, pos, neg_ℤ, length, take, drop}
+use Rattle.std.specs.Prelude.{ℕ, ◌*◌, ◌^◌, ◌≤◌, ◌<◌, ◌≡◌, List, [], ◌∷◌, ℤ, pos, neg_ℤ, length, take, drop, Ok}
 use Rattle.instants.specs.Instants.{IsAccepted, later_day, later_micros}
 use Rattle.instants.specs.Moments.{since_j2000, moment_of, since}
 use Rattle.sine.specs.Within.{sine_distance, SineWithin}
@@ -21,7 +21,6 @@ use Rattle.nutation.specs.Exact.{exact_x, exact_y, exact_den}
 use Rattle.nutation.specs.Claims as nutation
 use Rattle.nutation.specs.Claims.{OffsetsNear}
 use Rattle.nutation.specs.declared.Offsets.{Offsets}
-use Rattle.nutation.specs.declared.NutationAnswer.TheVariants.{Nutation}
 
 -- two rows as bytes: of the first day, with no amplitude and the least uncertainty; of the last, with the largest amplitudes, XC below 0 and XS above,
 -- and the largest uncertainty
@@ -53,10 +52,10 @@ pub record Distance : Type 0 where
   -- and the moment that a row of the table is dated at stands for 0 h of its day
   pub row_dates : (r : Row) → since (row_moment r) ≡ since_j2000 (pos r.day) 0
   -- (f) every accepted instant is answered by two offsets within 2 nanoarcseconds of the exact ones, and the exact uncertainty
-  pub offsets_near : (d : ℤ) (m : ℕ) → IsAccepted d m → (o : Offsets) × (nutation_of d m ≡ Nutation o) × OffsetsNear built_in (moment_of d m) o
+  pub offsets_near : (d : ℤ) (m : ℕ) → IsAccepted d m → (o : Offsets) × (nutation_of d m ≡ Ok o) × OffsetsNear built_in (moment_of d m) o
   -- and so with the rows of any accepted bytes, by those rows
   pub rows_near : (s : List ℕ) → AcceptedBytes s → (d : ℤ) (m : ℕ) → IsAccepted d m
-      → (o : Offsets) × (nutation_rows_of s d m ≡ Nutation o) × OffsetsNear (table_in s) (moment_of d m) o
+      → (o : Offsets) × (nutation_rows_of s d m ≡ Ok o) × OffsetsNear (table_in s) (moment_of d m) o
   -- accepted bytes exist, and hold these rows
   pub some_rows : AcceptedBytes two_rows × (table_in two_rows ≡ row 15020 (pos 0) (pos 0) 1 ∷ row 88433 (neg_ℤ (pos 100_000)) (pos 100_000) 100_000 ∷ [])
   -- no constant offset would do

@@ -1,7 +1,7 @@
 -- Demand 2: exactness. Dates each way; frequency and phase; records read back; clock words joined exactly when they are of one day; rows from the caller
 -- read as they were written; uncertainties above 0; the lookup of rows, and the number of its probes; UTC readings and instants each way; records rescued;
 -- angles; record files compared.
-use Rattle.std.specs.Prelude.{ℕ, suc, ◌+◌, ◌*◌, ◌-◌, ◌/◌, ◌^◌, ◌≤◌, ◌<◌, ◌≡◌, false, List, ◌++◌, ◌⊎◌, T, ℤ, pos, neg_ℤ, ◌+ℤ◌, ◌-ℤ◌, nat_abs, ◌<ℤ◌, length, take, drop, get_or, set}
+use Rattle.std.specs.Prelude.{ℕ, suc, ◌+◌, ◌*◌, ◌-◌, ◌/◌, ◌^◌, ◌≤◌, ◌<◌, ◌≡◌, false, List, ◌++◌, ◌⊎◌, T, ℤ, pos, neg_ℤ, ◌+ℤ◌, ◌-ℤ◌, nat_abs, ◌<ℤ◌, length, take, drop, get_or, set, Ok, Err}
 use Rattle.std.specs.Float.Ieee.{le}
 use Rattle.std.specs.Int.{w32}
 use Rattle.std.proofs.Common.{SFits}
@@ -11,9 +11,6 @@ use Rattle.calendar.specs.Dates.{date, next, date_after, day_of, date_of}
 use Rattle.calendar.specs.Times.{instant_of}
 use Rattle.calendar.specs.declared.Date.{Date}
 use Rattle.instants.specs.declared.Instant.{Instant}
-use Rattle.calendar.specs.declared.DayAnswer.TheVariants.{Day}
-use Rattle.calendar.specs.declared.DateAnswer.TheVariants.{OnDate}
-use Rattle.calendar.specs.declared.InstantAnswer.TheVariants.{AtInstant, NoInstant}
 use Rattle.calendar.specs.Claims.{one_of}
 use Rattle.utc.specs.Table.{later_steps}
 use Rattle.utc.specs.Readings.{reading, reading_index, reading_micros, AcceptedReading}
@@ -21,14 +18,11 @@ use Rattle.utc.specs.Conversions.{tt_at, tt_of, utc_of, reading_refusal_of}
 use Rattle.utc.specs.PhaseInstants.{PhaseInstant}
 use Rattle.utc.specs.Claims.{table_rule, eves_of, instant_second_later, next_second}
 use Rattle.utc.specs.declared.Reading.{Reading}
-use Rattle.utc.specs.declared.ReadingAnswer.TheVariants.{AtReading, NoReading}
 use Rattle.promises.specs.AnyInput.{days_with_second60}
 use Rattle.promises.specs.Rescued.{RescuedExactly}
 use Rattle.promises.specs.Angles.{AnglesExactly}
 use Rattle.promises.specs.Compared.{ComparedExactly}
 use Rattle.clock.specs.Words.{words, time_word, split_of, join_of}
-use Rattle.clock.specs.declared.SplitAnswer.TheVariants.{Split}
-use Rattle.clock.specs.declared.JoinAnswer.TheVariants.{Joined, NoJoin}
 use Rattle.binary64.specs.Words.{whole, zero64}
 use Rattle.binary64.specs.Claims.{Finite, InRange, within}
 use Rattle.tide.specs.Tidal.{day_fraction, centuries, arguments_of, constituent_of, turn64, all_in_range, tide_of, frequency_of, phase_of, doodson}
@@ -49,9 +43,9 @@ use Rattle.nutation.specs.Ours.{nutation_with, nutation_of, nutation_rows_of, un
 use Rattle.record.specs.Format.{record_length}
 use Rattle.record.specs.Records.{record_with, write_refusal, written, read_of}
 use Rattle.record.specs.declared.Record.{Record}
-use Rattle.record.specs.declared.ReadAnswer.TheVariants.{IsRecord}
 use Rattle.instants.specs.Moments.{since_j2000, moment_of}
 use Rattle.run.specs.Run.{run_refusal, record_at, run_written}
+use Rattle.instants.specs.declared.refusal.Refusal.TheVariants.{WordsDisagree, UtcEarly, UtcExpired}
 
 -- a table of rows in the figures of its rules
 pub record KeepsRules (rows : List Row) : Type 0 where
@@ -63,24 +57,24 @@ pub record KeepsRules (rows : List Row) : Type 0 where
 
 pub record Exactness : Type 0 where
   -- (a) the date of a date's day number is that date, and the day number of a day number's date is that day number
-  pub date_there_and_back : (y m d : ℕ) (z : ℤ) → day_of y m d ≡ Day z → date_of z ≡ OnDate (date y m d)
-  pub day_there_and_back : (z : ℤ) (t : Date) → date_of z ≡ OnDate t → day_of t.year t.month t.day ≡ Day z
+  pub date_there_and_back : (y m d : ℕ) (z : ℤ) → day_of y m d ≡ Ok z → date_of z ≡ Ok (date y m d)
+  pub day_there_and_back : (z : ℤ) (t : Date) → date_of z ≡ Ok t → day_of t.year t.month t.day ≡ Ok z
   -- every day number in range has a date, and the next day is the next date, month and year ends included
-  pub every_day_has_a_date : (z : ℤ) → outside z ≡ false → date_of z ≡ OnDate (date_after (day_index z))
-  pub next_day_next_date : (z : ℤ) (t : Date) → date_of z ≡ OnDate t → outside (z +ℤ pos 1) ≡ false → date_of (z +ℤ pos 1) ≡ OnDate (next t)
+  pub every_day_has_a_date : (z : ℤ) → outside z ≡ false → date_of z ≡ Ok (date_after (day_index z))
+  pub next_day_next_date : (z : ℤ) (t : Date) → date_of z ≡ Ok t → outside (z +ℤ pos 1) ≡ false → date_of (z +ℤ pos 1) ≡ Ok (next t)
   -- (b) the instant of a date and time is accepted, and of the date's day
-  pub instant_of_date : (y m d h n s u : ℕ) (t : Instant) → instant_of y m d h n s u ≡ AtInstant t → (day_of y m d ≡ Day t.day) × IsAccepted t.day t.micros
+  pub instant_of_date : (y m d h n s u : ℕ) (t : Instant) → instant_of y m d h n s u ≡ Ok t → (day_of y m d ≡ Ok t.day) × IsAccepted t.day t.micros
   -- (c) an accepted instant is split and joined again
-  pub split_and_joined : (d : ℤ) (m : ℕ) → IsAccepted d m → (split_of d m ≡ Split (words d (time_word d m))) × (join_of d (time_word d m) ≡ Joined (instant d m))
+  pub split_and_joined : (d : ℤ) (m : ℕ) → IsAccepted d m → (split_of d m ≡ Ok (words d (time_word d m))) × (join_of d (time_word d m) ≡ Ok (instant d m))
   -- the day word of one accepted moment and the time word of another, whose day numbers differ by less than eight, are joined exactly when both are of
   -- one day, and then give the moment of the time word
   pub joined_exactly : (d e : ℤ) (k m : ℕ) → IsAccepted d k → IsAccepted e m → nat_abs (d -ℤ e) < 8
-      → (d ≡ e → join_of d (time_word e m) ≡ Joined (instant e m)) × ((d ≡ e → ⊥) → join_of d (time_word e m) ≡ NoJoin 10)
+      → (d ≡ e → join_of d (time_word e m) ≡ Ok (instant e m)) × ((d ≡ e → ⊥) → join_of d (time_word e m) ≡ Err WordsDisagree)
   -- (d) an instant for phases has an accepted reading, whose instant is its TT part and accepted, and every accepted reading has one
-  pub parts_belong_together : (p : PhaseInstant) → AcceptedReading p.utc × (tt_of p.utc ≡ AtInstant p.tt) × IsAccepted p.tt.day p.tt.micros
+  pub parts_belong_together : (p : PhaseInstant) → AcceptedReading p.utc × (tt_of p.utc ≡ Ok p.tt) × IsAccepted p.tt.day p.tt.micros
   pub accepted_reading_has_phases : (r : Reading) → AcceptedReading r → (p : PhaseInstant) × (p.utc ≡ r)
   -- frequency and phase are the expression in its order: the fraction of 360 f is the reading's, and the centuries are those of its instant
-  pub corrected_expression : (r : Reading) (t : Instant) (k : Doodson) → tt_of r ≡ AtInstant t → T (all_in_range k)
+  pub corrected_expression : (r : Reading) (t : Instant) (k : Doodson) → tt_of r ≡ Ok t → T (all_in_range k)
       → tide_of r k ≡ tideCase.Tide (constituent_of (arguments_of (day_fraction (reading_micros r)) (centuries t.day (day_fraction t.micros))) k)
   -- in second 60 that fraction is of a whole day and the reading's microseconds, and as a number of binary64 1 or more
   pub second_60_past_the_day : (r : Reading) → AcceptedReading r → 59 < r.second
@@ -145,17 +139,17 @@ pub record Exactness : Type 0 where
   pub some_eight : (s : List ℕ) × (d : ℤ) × (m : ℕ) × AcceptedBytes s × ((length s - 3) / 16 ≡ 200) × (probes_rows_of s d m ≡ 8)
   -- (g) a record written at an accepted instant, with any three numbers of 32 bits, into thirty bytes or more reads back as it was
   pub record_reads_back : (d : ℤ) (m : ℕ) (ut1 lod rate : ℤ) (old : List ℕ) → IsAccepted d m → record_length ≤ length old → SFits w32 ut1 → SFits w32 lod → SFits w32 rate
-      → read_of (written d m ut1 lod rate old) ≡ IsRecord (record_with d m ut1 lod rate)
+      → read_of (written d m ut1 lod rate old) ≡ Ok (record_with d m ut1 lod rate)
   -- what thirty bytes gave when read, written, makes the same thirty bytes; what stood behind them stays
-  pub record_written_again : (s : List ℕ) (r : Record) (old : List ℕ) → Bytes s → read_of s ≡ IsRecord r → record_length ≤ length old
+  pub record_written_again : (s : List ℕ) (r : Record) (old : List ℕ) → Bytes s → read_of s ≡ Ok r → record_length ≤ length old
       → (write_refusal r.day r.micros (length old) ≡ 0) × (written r.day r.micros r.ut1 r.lod r.rate old ≡ take record_length s ++ drop record_length old)
   -- only the first thirty bytes are read, and writing changes no byte behind them
   pub record_reads_front : (s : List ℕ) → read_of (take record_length s) ≡ read_of s
   pub record_keeps_behind : (d : ℤ) (m : ℕ) (ut1 lod rate : ℤ) (old : List ℕ)
       → (length (written d m ut1 lod rate old) ≡ length old) × (drop record_length (written d m ut1 lod rate old) ≡ drop record_length old)
   -- a record of which one byte was changed does not read
-  pub record_changed : (s : List ℕ) (r : Record) (i b : ℕ) → Bytes s → read_of s ≡ IsRecord r → i < record_length → b < 256 → (get_or s i 0 ≡ b → ⊥)
-      → (q : Record) → read_of (set s i b) ≡ IsRecord q → ⊥
+  pub record_changed : (s : List ℕ) (r : Record) (i b : ℕ) → Bytes s → read_of s ≡ Ok r → i < record_length → b < 256 → (get_or s i 0 ≡ b → ⊥)
+      → (q : Record) → read_of (set s i b) ≡ Ok q → ⊥
   -- a run that is not refused: record k fills bytes 30 k to 30 k + 29, and its instant is k steps after the start; no byte behind its records changes
   pub run_record_place : (d : ℤ) (m count step : ℕ) (old : List ℕ) → run_refusal d m count step (length old) ≡ 0 → (k : ℕ) → k < count
       → take record_length (drop (record_length * k) (run_written d m count step old)) ≡ record_at (later_day d m (k * step)) (later_micros m (k * step))
@@ -163,16 +157,16 @@ pub record Exactness : Type 0 where
   pub run_keeps_behind : (d : ℤ) (m count step : ℕ) (old : List ℕ)
       → (length (run_written d m count step old) ≡ length old) × (drop (record_length * count) (run_written d m count step old) ≡ drop (record_length * count) old)
   -- (h) a UTC reading is accepted exactly when it has an instant, and that instant is accepted
-  pub accepted_reading_has_instant : (r : Reading) → AcceptedReading r → tt_of r ≡ AtInstant (tt_at (reading_index r) (reading_micros r))
-  pub reading_with_instant_accepted : (r : Reading) (t : Instant) → tt_of r ≡ AtInstant t → AcceptedReading r × IsAccepted t.day t.micros
+  pub accepted_reading_has_instant : (r : Reading) → AcceptedReading r → tt_of r ≡ Ok (tt_at (reading_index r) (reading_micros r))
+  pub reading_with_instant_accepted : (r : Reading) (t : Instant) → tt_of r ≡ Ok t → AcceptedReading r × IsAccepted t.day t.micros
   -- two accepted readings that have one instant are the same reading
-  pub one_reading : (r q : Reading) (t : Instant) → tt_of r ≡ AtInstant t → tt_of q ≡ AtInstant t → r ≡ q
+  pub one_reading : (r q : Reading) (t : Instant) → tt_of r ≡ Ok t → tt_of q ≡ Ok t → r ≡ q
   -- the reading of a reading's instant is that reading, and the instant of an instant's reading is that instant
-  pub reading_there_and_back : (r : Reading) (t : Instant) → tt_of r ≡ AtInstant t → utc_of t.day t.micros ≡ AtReading r
-  pub instant_there_and_back : (d : ℤ) (m : ℕ) (r : Reading) → utc_of d m ≡ AtReading r → tt_of r ≡ AtInstant (instant d m)
+  pub reading_there_and_back : (r : Reading) (t : Instant) → tt_of r ≡ Ok t → utc_of t.day t.micros ≡ Ok r
+  pub instant_there_and_back : (d : ℤ) (m : ℕ) (r : Reading) → utc_of d m ≡ Ok r → tt_of r ≡ Ok (instant d m)
   -- a refused instant is no reading's; an accepted instant that is no reading's is refused, by 19 or 20
-  pub refused_is_unread : (d : ℤ) (m : ℕ) → (reading_refusal_of (utc_of d m) ≡ 0 → ⊥) → (r : Reading) → tt_of r ≡ AtInstant (instant d m) → ⊥
-  pub unread_is_refused : (d : ℤ) (m : ℕ) → IsAccepted d m → ((r : Reading) → tt_of r ≡ AtInstant (instant d m) → ⊥) → (utc_of d m ≡ NoReading 19) ⊎ (utc_of d m ≡ NoReading 20)
+  pub refused_is_unread : (d : ℤ) (m : ℕ) → (reading_refusal_of (utc_of d m) ≡ 0 → ⊥) → (r : Reading) → tt_of r ≡ Ok (instant d m) → ⊥
+  pub unread_is_refused : (d : ℤ) (m : ℕ) → IsAccepted d m → ((r : Reading) → tt_of r ≡ Ok (instant d m) → ⊥) → (utc_of d m ≡ Err UtcEarly) ⊎ (utc_of d m ≡ Err UtcExpired)
   -- the table keeps its rule, and the 27 dates of the figures are the days before its later rows; a second past 59 is accepted exactly at 23:59:60 of these
   pub table_rule_lem : T table_rule
   pub days_with_second_60 : T (eves_of days_with_second60 later_steps)
@@ -180,13 +174,13 @@ pub record Exactness : Type 0 where
       → (r.second ≡ 60) × (r.hour ≡ 23) × (r.minute ≡ 59) × T (one_of r.year r.month r.day days_with_second60)
   pub second_60_there : (y m d u : ℕ) → T (one_of y m d days_with_second60) → u ≤ 999_999 → AcceptedReading (reading y m d 23 59 60 u)
   -- the reading a second after an accepted one has the instant a second later, or the list expires there
-  pub time_runs_on : (r : Reading) (t : Instant) → tt_of r ≡ AtInstant t
-      → (tt_of (next_second r) ≡ AtInstant (instant_second_later t)) ⊎ (tt_of (next_second r) ≡ NoInstant 20)
+  pub time_runs_on : (r : Reading) (t : Instant) → tt_of r ≡ Ok t
+      → (tt_of (next_second r) ≡ Ok (instant_second_later t)) ⊎ (tt_of (next_second r) ≡ Err UtcExpired)
   -- there are such: a reading and its instant, one in second 60, the first and the last microsecond that is answered, and the refused ones beside them
-  pub a_reading : tt_of (reading 2009 6 25 0 0 0 0) ≡ AtInstant (instant (pos 55007) 66_184_000)
-  pub a_second_60 : tt_of (reading 2016 12 31 23 59 60 500_000) ≡ AtInstant (instant (pos 57754) 68_684_000)
-  pub first_and_last : (utc_of (pos 41317) 42_184_000 ≡ AtReading (reading 1972 1 1 0 0 0 0)) × (utc_of (pos 60854) 69_183_999 ≡ AtReading (reading 2025 6 27 23 59 59 999_999))
-  pub before_and_after : (utc_of (pos 41317) 42_183_999 ≡ NoReading 19) × (utc_of (pos 60854) 69_184_000 ≡ NoReading 20)
+  pub a_reading : tt_of (reading 2009 6 25 0 0 0 0) ≡ Ok (instant (pos 55007) 66_184_000)
+  pub a_second_60 : tt_of (reading 2016 12 31 23 59 60 500_000) ≡ Ok (instant (pos 57754) 68_684_000)
+  pub first_and_last : (utc_of (pos 41317) 42_184_000 ≡ Ok (reading 1972 1 1 0 0 0 0)) × (utc_of (pos 60854) 69_183_999 ≡ Ok (reading 2025 6 27 23 59 59 999_999))
+  pub before_and_after : (utc_of (pos 41317) 42_183_999 ≡ Err UtcEarly) × (utc_of (pos 60854) 69_184_000 ≡ Err UtcExpired)
   -- (i) records are rescued exactly (Rescued.antt)
   pub rescued : RescuedExactly
   -- (j) angles (Angles.antt)

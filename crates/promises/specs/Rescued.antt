@@ -1,21 +1,20 @@
 -- Demand 2, of service (i): records rescued from damaged bytes. What is kept and passed is said of the walk, for any bytes; then of the numbers and buffers
 -- of an answer.
-use Rattle.std.specs.Prelude.{ℕ, suc, ◌+◌, ◌*◌, ◌≤◌, ◌<◌, ◌≡◌, true, false, not, ◌&&◌, List, [], ◌∷◌, ◌++◌, ltb, length, take, drop, get_or, set}
+use Rattle.std.specs.Prelude.{ℕ, suc, ◌+◌, ◌*◌, ◌≤◌, ◌<◌, ◌≡◌, true, false, not, ◌&&◌, List, [], ◌∷◌, ◌++◌, ltb, length, take, drop, get_or, set, Ok, Err}
 use Rattle.bigendian.specs.Numbers.{Bytes}
 use Rattle.record.specs.declared.Record.{Record}
-use Rattle.record.specs.declared.ReadAnswer.TheVariants.{IsRecord, NoRecord}
 use Rattle.record.specs.Records.{read_of}
 use Rattle.rescue.specs.Walk.{range, has_record, ended, keeping, passing, walk_from, walk, ranges_of}
 use Rattle.rescue.specs.Rescue.{kept_bytes, list_bytes, rescue_of, records_after, list_after, kept_of, ranges_number_of, passed_of, rescue_refusal_of}
 use Rattle.rescue.specs.Claims.{Each, among, in_record, places_of, Apart, listed, WholeRecords}
-use Rattle.rescue.specs.declared.RescueAnswer.TheVariants.{Rescued, NoRescue}
+use Rattle.instants.specs.declared.refusal.Refusal.TheVariants.{BufferShort}
 
 pub record RescuedExactly : Type 0 where
   -- the rule: at the end the walk has ended; where the next thirty bytes read as a record it is kept, and the walk goes on thirty bytes on; elsewhere one
   -- byte is passed
   pub walk_ends : (s : List ℕ) (i : ℕ) → length s ≤ i → walk_from s i ≡ ended
-  pub walk_keeps : (s : List ℕ) (i : ℕ) (r : Record) → read_of (drop i s) ≡ IsRecord r → walk_from s i ≡ keeping i (walk_from s (i + 30))
-  pub walk_passes : (s : List ℕ) (i n : ℕ) → i < length s → read_of (drop i s) ≡ NoRecord n → walk_from s i ≡ passing i (walk_from s (i + 1))
+  pub walk_keeps : (s : List ℕ) (i : ℕ) (r : Record) → read_of (drop i s) ≡ Ok r → walk_from s i ≡ keeping i (walk_from s (i + 30))
+  pub walk_passes : (s : List ℕ) (i n : ℕ) → i < length s → read_of (drop i s) ≡ Err n → walk_from s i ≡ passing i (walk_from s (i + 1))
   -- every place of the bytes is passed or in a kept record, and not both; each kept place has a record, and no passed place has one
   pub every_place : (s : List ℕ) (p : ℕ) → among p (walk s).passed ≡ (ltb p (length s) && not (in_record p (walk s).kept))
   pub kept_read : (s : List ℕ) → Each (λ i. has_record s i ≡ true) (walk s).kept
@@ -52,4 +51,4 @@ pub record RescuedExactly : Type 0 where
   -- there is such a case: two records of which the first has 7 in place of another byte, with nothing that reads inside it; and a byte less in either buffer
   -- is refused
   pub some_damaged : (s : List ℕ) × WholeRecords s 2 × Bytes s × (get_or s 16 0 ≡ 7 → ⊥) × ((k : ℕ) → 0 < k → k < 30 → has_record (set s 16 7) k ≡ false)
-      × (rescue_of (set s 16 7) 30 8 ≡ Rescued (record { kept = 1; ranges = 1; passed = 30 })) × (rescue_of (set s 16 7) 29 8 ≡ NoRescue 12) × (rescue_of (set s 16 7) 30 7 ≡ NoRescue 12)
+      × (rescue_of (set s 16 7) 30 8 ≡ Ok (record { kept = 1; ranges = 1; passed = 30 })) × (rescue_of (set s 16 7) 29 8 ≡ Err BufferShort) × (rescue_of (set s 16 7) 30 7 ≡ Err BufferShort)

@@ -8,17 +8,16 @@ use Rattle.bigendian.proofs.Fields.{field_bytes_lem, signed_field, field_on}
 use Rattle.bigendian.proofs.Buffers.{front_is}
 use Rattle.instants.proofs.Accepted.{accepted}
 use Rattle.clock.specs.declared.ClockWords.{ClockWords}
-use Rattle.clock.specs.declared.SplitAnswer.TheVariants.{Split}
 use Rattle.clock.specs.Words.{split_of, words}
 use Rattle.clock.proofs.Words.{was_split, join_then_split}
 use Rattle.record.specs.declared.Record.{Record}
-use Rattle.record.specs.declared.ReadAnswer.TheVariants.{IsRecord}
 use Rattle.bigendian.specs.declared.Field.{Field}
 use Rattle.bigendian.specs.Fields.{field_at, signed_at, in_field, signed_in}
 use Rattle.record.specs.Format.{record_length, length_field, version_field, zero_field, day_field, time_field, ut1_field, lod_field, rate_field, check_field, field_bytes, negated, record_bytes}
 use Rattle.record.specs.Records.{write_refusal, written, read_of}
 use Rattle.record.proofs.Written.{written_is}
 use Rattle.record.proofs.Forms.{Formed, WasRead, was_read}
+use Rattle.std.specs.Prelude.{Ok}
 
 -- a word that makes the sum 0 is the sum negated
 negated_is : (x n : ℕ) → (x + n) % 0x1_0000 ≡ 0 → n < 0x1_0000 → negated x ≡ n
@@ -59,12 +58,12 @@ module _ (s : List ℕ) (b : Bytes s) (f : Formed s) where
       ∙ field_on s check_field refl (number check_field (omega arith) check_is)
 
 -- PROMISE. What thirty bytes gave when read, written into any thirty bytes or more, makes the same thirty bytes.
-pub written_again : (s : List ℕ) (r : Record) (old : List ℕ) → Bytes s → read_of s ≡ IsRecord r → record_length ≤ length old
+pub written_again : (s : List ℕ) (r : Record) (old : List ℕ) → Bytes s → read_of s ≡ Ok r → record_length ≤ length old
     → (write_refusal r.day r.micros (length old) ≡ 0) × (written r.day r.micros r.ut1 r.lod r.rate old ≡ take record_length s ++ drop record_length old)
 unfolding write_refusal
 written_again s r old b e h =
     let v : WasRead s r = was_read s r e in
-    let p : split_of r.day r.micros ≡ Split (w s b v.form) =
+    let p : split_of r.day r.micros ≡ Ok (w s b v.form) =
     ap (λ (x : Record). split_of x.day x.micros) v.is ∙ join_then_split _ _ v.instant v.join in
     let q : record_bytes (w s b v.form) r.ut1 r.lod r.rate ≡ take record_length s = rw v.is (bytes_are s b v.form) in
     let k = was_split _ _ _ p in (

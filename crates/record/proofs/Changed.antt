@@ -5,10 +5,10 @@ use native.Mathlib.Decide.{ℕ_discrete}
 use Rattle.bigendian.specs.Numbers.{Bytes, number_at}
 use Rattle.bigendian.proofs.Sums.{one_word}
 use Rattle.record.specs.declared.Record.{Record}
-use Rattle.record.specs.declared.ReadAnswer.TheVariants.{IsRecord}
 use Rattle.record.specs.Format.{record_length}
 use Rattle.record.specs.Records.{read_of}
 use Rattle.record.proofs.Forms.{WasRead, was_read}
+use Rattle.std.specs.Prelude.{Ok}
 
 module _ (s : List ℕ) (i b : ℕ) (h : i < length s) where
   abbrev t : List ℕ
@@ -46,7 +46,7 @@ module _ (s : List ℕ) (i b : ℕ) (h : i < length s) where
       by (no q) = at (2 * (i / 2) + 1) (omega (arith, q)) both.1
 
 -- PROMISE. In a record that reads, one byte changed, as by a flipped bit, is refused.
-pub changed_byte : (s : List ℕ) (r : Record) (i b : ℕ) → Bytes s → read_of s ≡ IsRecord r → i < record_length → b < 256 → (get_or s i 0 ≡ b → ⊥) → (q : Record) → read_of (set s i b) ≡ IsRecord q → ⊥
+pub changed_byte : (s : List ℕ) (r : Record) (i b : ℕ) → Bytes s → read_of s ≡ Ok r → i < record_length → b < 256 → (get_or s i 0 ≡ b → ⊥) → (q : Record) → read_of (set s i b) ≡ Ok q → ⊥
 changed_byte s r i b p e h l n q f =
     let v : WasRead s r = was_read s r e in
     let w : WasRead (set s i b) q = was_read (set s i b) q f in

@@ -8,14 +8,14 @@ use Rattle.instants.specs.Refusals.{refused_or}
 use Rattle.instants.specs.Instants.{instant}
 use Rattle.instants.proofs.Impossible.{impossible}
 use Rattle.instants.proofs.FirstRefusal.{NoneApplies, none_both, answered_none, none_answered, refused_alike, refused_first, first_none}
-use Rattle.clock.specs.declared.JoinAnswer.TheVariants.{Joined, NoJoin}
 use Rattle.clock.specs.Words.{mark_unit, join_cases, join_of}
 use Rattle.record.specs.declared.Record.{Record}
-use Rattle.record.specs.declared.ReadAnswer.TheVariants.{IsRecord, NoRecord}
 use Rattle.bigendian.specs.Fields.{field_at}
 use Rattle.record.specs.Format.{record_length, version, length_field, version_field, zero_field, day_field, time_field}
 use Rattle.record.specs.Records.{record_with, head_cases, form_cases, read_cases, record_of, read_of, is_record}
 use Rattle.record.specs.Inner.{head_refusal, form_refusal}
+use Rattle.std.specs.Prelude.{Ok, Err}
+use Rattle.instants.specs.declared.refusal.Refusal.TheVariants.{RecordSum}
 
 -- bytes of the right form
 pub record Formed (s : List ℕ) : Type 0 where
@@ -47,21 +47,21 @@ form_right s f =
 pub record WasRead (s : List ℕ) (r : Record) : Type 0 where
   pub form : Formed s
   pub instant : Instant
-  pub join : join_of (pos (field_at s day_field)) (field_at s time_field) ≡ Joined instant
+  pub join : join_of (pos (field_at s day_field)) (field_at s time_field) ≡ Ok instant
   pub is : r ≡ record_of instant s
 
-pub was_read : (s : List ℕ) (r : Record) → read_of s ≡ IsRecord r → WasRead s r
+pub was_read : (s : List ℕ) (r : Record) → read_of s ≡ Ok r → WasRead s r
 unfolding read_of join_of
 was_read s r e =
     let d = pos (field_at s day_field) in
     let t = field_at s time_field in
-    let q = answered_none NoRecord (read_cases s) (IsRecord (record_of (instant d (t % mark_unit)) s)) (IsRecord r) (λ n p. impossible (cc)) e in
+    let q = answered_none Err (read_cases s) (Ok (record_of (instant d (t % mark_unit)) s)) (Ok r) (λ n p. impossible (cc)) e in
     let n = none_both (form_cases s) (join_cases d t) q.0 in
-    let g : IsRecord (record_of (instant d (t % mark_unit)) s) ≡ IsRecord r = q.1 in
+    let g : Ok (record_of (instant d (t % mark_unit)) s) ≡ Ok r = q.1 in
     record {
       form = none_formed s n.0;
       instant = instant d (t % mark_unit);
-      join = none_answered NoJoin (join_cases d t) _ n.1;
+      join = none_answered Err (join_cases d t) _ n.1;
       is = cc;
     }
 
@@ -76,7 +76,7 @@ module _ (s : List ℕ) where
   -- without a head nothing reads
   pub head_needed : (head_refusal s ≡ 0 → ⊥) → is_record (read_of s) ≡ false
   unfolding head_refusal read_of
-  head_needed h = ap is_record (refused_first NoRecord (head_cases s) _ h)
+  head_needed h = ap is_record (refused_first Err (head_cases s) _ h)
 
   -- one that is not, and the sum behind it
   module _ (e : head_refusal s ≡ 0) where
@@ -93,7 +93,7 @@ module _ (s : List ℕ) where
 
     pub sum_needed : (word_sum s 15 % 0x1_0000 ≡ 0 → ⊥) → is_record (read_of s) ≡ false
     unfolding read_of
-    sum_needed h = let r : read_of s ≡ NoRecord 16 = none_answered NoRecord (head_cases s) _ none ∙ simp (ne_eqb _ _ h) in ap is_record r
+    sum_needed h = let r : read_of s ≡ Err RecordSum = none_answered Err (head_cases s) _ none ∙ simp (ne_eqb _ _ h) in ap is_record r
 
     pub form_accepted : word_sum s 15 % 0x1_0000 ≡ 0 → form_refusal s ≡ 0
     unfolding form_refusal
@@ -107,23 +107,23 @@ module _ (s : List ℕ) (e : form_refusal s ≡ 0) where
   abbrev time : ℕ
   time = field_at s time_field
 
-  words_read : read_of s ≡ refused_or NoRecord (join_cases day time) (IsRecord (record_of (instant day (time % mark_unit)) s))
+  words_read : read_of s ≡ refused_or Err (join_cases day time) (Ok (record_of (instant day (time % mark_unit)) s))
   unfolding read_of form_refusal
-  words_read = none_answered NoRecord (form_cases s) _ (first_none (form_cases s) tt e)
+  words_read = none_answered Err (form_cases s) _ (first_none (form_cases s) tt e)
 
-  pub read_refused : (n : ℕ) → join_of day time ≡ NoJoin n → read_of s ≡ NoRecord n
+  pub read_refused : (n : ℕ) → join_of day time ≡ Err n → read_of s ≡ Err n
   unfolding join_of
-  read_refused n j = words_read ∙ refused_alike NoJoin NoRecord (join_cases day time) _ _ n (λ k p. cc) (λ p. impossible (cc)) j
+  read_refused n j = words_read ∙ refused_alike Err Err (join_cases day time) _ _ n (λ k p. cc) (λ p. impossible (cc)) j
 
-  pub read_joined : (i : Instant) → join_of day time ≡ Joined i → read_of s ≡ IsRecord (record_of i s)
+  pub read_joined : (i : Instant) → join_of day time ≡ Ok i → read_of s ≡ Ok (record_of i s)
   unfolding join_of
   read_joined i j =
-      let q = answered_none NoJoin (join_cases day time) (Joined (instant day (time % mark_unit))) (Joined i) (λ n p. impossible (cc)) j in
-      let g : Joined (instant day (time % mark_unit)) ≡ Joined i = q.1 in
+      let q = answered_none Err (join_cases day time) (Ok (instant day (time % mark_unit))) (Ok i) (λ n p. impossible (cc)) j in
+      let g : Ok (instant day (time % mark_unit)) ≡ Ok i = q.1 in
       let f : instant day (time % mark_unit) ≡ i = cc in
-      words_read ∙ (none_answered NoRecord (join_cases day time) _ q.0 ∙ ap (λ (x : Instant). IsRecord (record_of x s)) f)
+      words_read ∙ (none_answered Err (join_cases day time) _ q.0 ∙ ap (λ (x : Instant). Ok (record_of x s)) f)
 
 -- records with equal numbers
 pub alike : (d : ℤ) (m : ℕ) {x x' y y' u u' : ℤ} → x ≡ x' → y ≡ y' → u ≡ u'
-    → IsRecord (record_with d m x y u) ≡ IsRecord (record_with d m x' y' u')
+    → Ok (record_with d m x y u) ≡ Ok (record_with d m x' y' u')
 alike d m p q r = simp (p, q, r)

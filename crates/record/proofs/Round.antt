@@ -10,13 +10,13 @@ use Rattle.instants.proofs.Accepted.{AcceptedAt, accepted_at}
 use Rattle.clock.specs.declared.ClockWords.{ClockWords}
 use Rattle.clock.specs.Words.{mark, time_word, words}
 use Rattle.clock.proofs.Words.{split_then_join}
-use Rattle.record.specs.declared.ReadAnswer.TheVariants.{IsRecord}
 use Rattle.bigendian.specs.Fields.{field_at, signed_at, in_field}
 use Rattle.record.specs.Format.{record_length, day_field, time_field, ut1_field, lod_field, rate_field, check_field, field_bytes, negated, record_bytes}
 use Rattle.record.specs.Records.{record_with, written, read_of}
 use Rattle.record.proofs.Written.{written_is, record_length_lem}
 use Rattle.instants.specs.Limits.{index_offset}
 use Rattle.record.proofs.Forms.{Formed, form_right, read_joined, alike}
+use Rattle.std.specs.Prelude.{Ok}
 
 -- the words of a record add to 0, wrapped
 zero_sum : (x : ℕ) → (x + negated x % 0x1_0000) % 0x1_0000 ≡ 0
@@ -61,7 +61,7 @@ mark_small (negsuc n) = omega arith
 
 -- The bytes of a record of an accepted instant read as that record, whatever follows them.
 pub read_back_lem : (d : ℤ) (m : ℕ) (ut1 lod rate : ℤ) (rest : List ℕ) → IsAccepted d m → SFits w32 ut1 → SFits w32 lod → SFits w32 rate
-    → read_of (record_bytes (words d (time_word d m)) ut1 lod rate ++ rest) ≡ IsRecord (record_with d m ut1 lod rate)
+    → read_of (record_bytes (words d (time_word d m)) ut1 lod rate ++ rest) ≡ Ok (record_with d m ut1 lod rate)
 unfolding record_bytes
 read_back_lem d m ut1 lod rate rest a f g h =
     let t : AcceptedAt d m (day_index d) = accepted_at d m (day_index d) a in
@@ -75,5 +75,5 @@ read_back_lem d m ut1 lod rate rest a f g h =
 
 -- PROMISE. A record written into thirty bytes or more reads back as the instant and the three numbers, whatever stood there.
 pub read_written : (d : ℤ) (m : ℕ) (ut1 lod rate : ℤ) (old : List ℕ) → IsAccepted d m → record_length ≤ length old → SFits w32 ut1 → SFits w32 lod → SFits w32 rate
-    → read_of (written d m ut1 lod rate old) ≡ IsRecord (record_with d m ut1 lod rate)
+    → read_of (written d m ut1 lod rate old) ≡ Ok (record_with d m ut1 lod rate)
 read_written d m ut1 lod rate old a l f g h = rw (written_is d m ut1 lod rate old a l, front_is _ old record_length (record_length_lem (words d (time_word d m)) ut1 lod rate)) (read_back_lem d m ut1 lod rate (drop record_length old) a f g h)

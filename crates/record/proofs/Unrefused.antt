@@ -11,37 +11,37 @@ use Rattle.clock.proofs.Words.{was_split, split_accepted, join_then_split}
 use Rattle.bigendian.specs.Numbers.{signed_of}
 use Rattle.bigendian.specs.Fields.{field_at}
 use Rattle.record.specs.declared.Record.{Record}
-use Rattle.record.specs.declared.ReadAnswer.{ReadAnswer}
-use Rattle.record.specs.declared.ReadAnswer.TheVariants.{IsRecord, NoRecord}
 use Rattle.record.specs.Format.{record_length, day_field, time_field, ut1_field, lod_field, rate_field}
 use Rattle.record.specs.Records.{read_cases, record_of, read_of, is_record, read_refusal_of}
 use Rattle.record.proofs.Forms.{WasRead, was_read}
 use Rattle.record.proofs.Written.{day_fits}
+use Rattle.std.specs.Prelude.{Result, Ok, Err}
+use Rattle.instants.specs.declared.refusal.Refusal.{Refusal}
 
 -- the record of bytes whose fields are not refused
 abbrev record_there : List ℕ → Record
 record_there s = record_of (instant (pos (field_at s day_field)) (field_at s time_field % mark_unit)) s
 
 -- an answer that is a record
-pub is_record_lem : (a : ReadAnswer) → is_record a ≡ true → (r : Record) × (a ≡ IsRecord r)
-is_record_lem (IsRecord r) e = (r, refl)
-is_record_lem (NoRecord n) e = absurd (true≢false (sym e))
+pub is_record_lem : (a : (Result Record Refusal)) → is_record a ≡ true → (r : Record) × (a ≡ Ok r)
+is_record_lem (Ok r) e = (r, refl)
+is_record_lem (Err n) e = absurd (true≢false (sym e))
 
 module _ (s : List ℕ) where
   refusal : read_refusal_of (read_of s) ≡ first_refusal (read_cases s)
   unfolding read_of
-  refusal = handed_on NoRecord read_refusal_of (λ n. refl) (read_cases s) _
+  refusal = handed_on Err read_refusal_of (λ n. refl) (read_cases s) _
 
   -- without a refusal it is the record of its fields
-  unrefused : read_refusal_of (read_of s) ≡ 0 → read_of s ≡ IsRecord (record_there s)
+  unrefused : read_refusal_of (read_of s) ≡ 0 → read_of s ≡ Ok (record_there s)
   unfolding read_of
-  unrefused e = none_answered NoRecord (read_cases s) _ (first_none (read_cases s) tt (sym refusal ∙ e))
+  unrefused e = none_answered Err (read_cases s) _ (first_none (read_cases s) tt (sym refusal ∙ e))
 
   -- no refusal has the number 0
-  pub refusal_numbered : (n : ℕ) → read_of s ≡ NoRecord n → n ≡ 0 → ⊥
-  refusal_numbered n p e = let q : read_of s ≡ IsRecord (record_there s) = unrefused (ap read_refusal_of p ∙ e) in impossible (cc)
+  pub refusal_numbered : (n : ℕ) → read_of s ≡ Err n → n ≡ 0 → ⊥
+  refusal_numbered n p e = let q : read_of s ≡ Ok (record_there s) = unrefused (ap read_refusal_of p ∙ e) in impossible (cc)
 
-  pub known_record : is_record (read_of s) ≡ true → read_of s ≡ IsRecord (record_there s)
+  pub known_record : is_record (read_of s) ≡ true → read_of s ≡ Ok (record_there s)
   known_record e = unrefused (ap read_refusal_of (is_record_lem (read_of s) e).1)
 
 -- what two's complement in four bytes gives fits them
@@ -52,7 +52,7 @@ signed_fits n = by (ltb n (256 ^ 4 / 2)) refl
     by true p = record { sfits = omega (arith, ltb-true n (256 ^ 4 / 2) p) }
     by false p = record { sfits = omega (arith, ltb-false n (256 ^ 4 / 2) p) }
 
-module _ (s : List ℕ) (r : Record) (e : read_of s ≡ IsRecord r) where
+module _ (s : List ℕ) (r : Record) (e : read_of s ≡ Ok r) where
   w : WasRead s r
   w = was_read s r e
 

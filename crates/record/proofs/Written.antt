@@ -9,12 +9,12 @@ use Rattle.instants.proofs.Impossible.{impossible}
 use Rattle.instants.proofs.FirstRefusal.{refused_alike}
 use Rattle.instants.proofs.Accepted.{accepted_at}
 use Rattle.clock.specs.declared.ClockWords.{ClockWords}
-use Rattle.clock.specs.declared.SplitAnswer.TheVariants.{Split, NoSplit}
 use Rattle.clock.specs.Words.{time_word, words, split_of}
 use Rattle.clock.proofs.Words.{WasSplit, was_split}
 use Rattle.record.specs.Format.{record_length, record_bytes}
 use Rattle.instants.specs.Limits.{index_offset}
 use Rattle.record.specs.Records.{write_refusal, written}
+use Rattle.std.specs.Prelude.{Ok, Err}
 
 pub record_length_lem : (w : ClockWords) (ut1 lod rate : ℤ) → length (record_bytes w ut1 lod rate) ≡ record_length
 unfolding record_bytes
@@ -28,19 +28,19 @@ written_is d m ut1 lod rate old a h = let k = accepted_at d m _ a in simp (k.ins
 -- ---- the code's returns
 
 module _ (d : ℤ) (m : ℕ) (ut1 lod rate : ℤ) (old : List ℕ) where
-  pub refused : (n : ℕ) → split_of d m ≡ NoSplit n → (n ≡ write_refusal d m (length old)) × (old ≡ written d m ut1 lod rate old)
+  pub refused : (n : ℕ) → split_of d m ≡ Err n → (n ≡ write_refusal d m (length old)) × (old ≡ written d m ut1 lod rate old)
   unfolding split_of write_refusal written
   refused n e = (by (λ k. k) _, by (λ _. old) _)
     where
       by : {A : Type 0} (refuse : ℕ → A) (a : A) → refuse n ≡ refused_or refuse (instant_cases d m) a
-      by refuse a = sym (refused_alike NoSplit refuse (instant_cases d m) _ a n (λ k p. cc) (λ p. impossible (cc)) e)
+      by refuse a = sym (refused_alike Err refuse (instant_cases d m) _ a n (λ k p. cc) (λ p. impossible (cc)) e)
 
-  pub short : (w : ClockWords) → split_of d m ≡ Split w → length old < record_length → (12 ≡ write_refusal d m (length old)) × (old ≡ written d m ut1 lod rate old)
+  pub short : (w : ClockWords) → split_of d m ≡ Ok w → length old < record_length → (12 ≡ write_refusal d m (length old)) × (old ≡ written d m ut1 lod rate old)
   unfolding write_refusal written
   short w e h = let k = (was_split d m w e).accepted in simp (k.inside, k.within, lt-ltb (length old) record_length h) (refl, refl)
 
   -- all of l, which is the record, is copied over the front of the buffer
-  pub done : (w : ClockWords) (l : List ℕ) → split_of d m ≡ Split w → record_length ≤ length old → l ≡ record_bytes w ut1 lod rate
+  pub done : (w : ClockWords) (l : List ℕ) → split_of d m ≡ Ok w → record_length ≤ length old → l ≡ record_bytes w ut1 lod rate
       → (0 ≡ write_refusal d m (length old)) × (take (length (take record_length l)) (take record_length l) ++ drop (length (take record_length l)) old ≡ written d m ut1 lod rate old)
   unfolding write_refusal written
   done w l e h q =
@@ -61,7 +61,7 @@ day_word i h = by (ltb i index_offset) refl
     by true p = record { sfits = omega arith }
     by false p = record { sfits = omega arith }
 
-pub day_fits : (d : ℤ) (m : ℕ) (w : ClockWords) → split_of d m ≡ Split w → SFits w32 w.day
+pub day_fits : (d : ℤ) (m : ℕ) (w : ClockWords) → split_of d m ≡ Ok w → SFits w32 w.day
 day_fits d m w e =
     let s : WasSplit d m w = was_split d m w e in
     rw (s.is, s.accepted.is) (day_word (day_index d) (omega (arith, s.accepted.high)))

@@ -3,11 +3,9 @@ use mathlib.Core.Path.{◌≡◌, refl}
 use Rattle.instants.specs.Instants.{outside, day_index, acceptance, day_at_index}
 use Rattle.calendar.specs.Dates.{leap_year, month_lengths, month_length, sum, year_length, days_of_years, days_before, date_index, day_of}
 use Rattle.instants.specs.declared.Instant.{Instant}
-use Rattle.calendar.specs.declared.InstantAnswer.TheVariants.{AtInstant}
 use Rattle.utc.specs.Table.{first_step, later_steps, begun, tai_minus_utc, is_eve, has_second60}
 use Rattle.utc.specs.Conversions.{tt_of, utc_of}
 use Rattle.utc.specs.declared.Reading.{Reading}
-use Rattle.utc.specs.declared.ReadingAnswer.TheVariants.{AtReading}
 use Rattle.utc.proofs.Inverse.{reading_there_and_back}
 use Rattle.clock.specs.Words.{split_of, join_of}
 use Rattle.bigendian.specs.Numbers.{word_sum}
@@ -19,6 +17,7 @@ use Rattle.rows.specs.Places.{started, place, span, interpolated}
 use Rattle.nutation.specs.Exact.{u_value, u_parts, uncertainty_at}
 use Rattle.nutation.specs.Ours.{offsets_at, nutation_of}
 use Rattle.reference.specs.Rows.{Says, EveryRow, rows}
+use Rattle.std.specs.Prelude.{Ok}
 
 -- a row that holds, before the others
 infixr 20 ◌▹◌
@@ -26,7 +25,7 @@ infixr 20 ◌▹◌
 a ▹ b = (a, b)
 
 -- the reading of an instant follows from the instant of the reading
-there_and_back : {r : Reading} {t : Instant} → tt_of r ≡ AtInstant t → (tt_of r ≡ AtInstant t) × (utc_of t.day t.micros ≡ AtReading r)
+there_and_back : {r : Reading} {t : Instant} → tt_of r ≡ Ok t → (tt_of r ≡ Ok t) × (utc_of t.day t.micros ≡ Ok r)
 there_and_back {r} {t} e = (e, reading_there_and_back r t e)
 
 -- PROMISE. Every row of the list of reference values holds.

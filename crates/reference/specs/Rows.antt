@@ -1,19 +1,13 @@
 -- The reference values of docs/RULES.md that are proved, as rows of one list.
-use Rattle.std.specs.Prelude.{ℕ, ◌≡◌, List, [], ◌∷◌, ℤ, pos, neg_ℤ}
+use Rattle.std.specs.Prelude.{ℕ, ◌≡◌, List, [], ◌∷◌, ℤ, pos, neg_ℤ, Ok, Err}
 use Rattle.calendar.specs.Dates.{day_of}
-use Rattle.calendar.specs.declared.DayAnswer.TheVariants.{Day, NoDay}
 use Rattle.instants.specs.Instants.{instant}
-use Rattle.calendar.specs.declared.InstantAnswer.TheVariants.{AtInstant, NoInstant}
 use Rattle.utc.specs.Readings.{reading}
 use Rattle.utc.specs.Conversions.{tt_of, utc_of}
 use Rattle.utc.specs.declared.Reading.{Reading}
-use Rattle.utc.specs.declared.ReadingAnswer.TheVariants.{AtReading}
 use Rattle.clock.specs.Words.{words, time_word, split_of, join_of}
-use Rattle.clock.specs.declared.SplitAnswer.TheVariants.{Split}
-use Rattle.clock.specs.declared.JoinAnswer.TheVariants.{NoJoin}
 use Rattle.record.specs.Format.{record_bytes}
 use Rattle.record.specs.Records.{record_with, read_of}
-use Rattle.record.specs.declared.ReadAnswer.TheVariants.{IsRecord}
 use Rattle.nutation.specs.Ours.{nutation_of, uncertainty_of}
 
 -- a row, by the kind of its statement
@@ -29,16 +23,16 @@ pub data Row : Type 0 where
 
 -- what a row says
 unfoldable pub Says : Row → Type 0
-Says (date_is y m d n) = day_of y m d ≡ Day (pos n)
-Says (date_refused y m d r) = day_of y m d ≡ NoDay r
-Says (time_word_is d m t) = split_of (pos d) m ≡ Split (words (pos d) t)
-Says (words_refused d t r) = join_of (pos d) t ≡ NoJoin r
+Says (date_is y m d n) = day_of y m d ≡ Ok (pos n)
+Says (date_refused y m d r) = day_of y m d ≡ Err r
+Says (time_word_is d m t) = split_of (pos d) m ≡ Ok (words (pos d) t)
+Says (words_refused d t r) = join_of (pos d) t ≡ Err r
 Says (record_is d m ut1 lod rate bytes) =
     (record_bytes (words (pos d) (time_word (pos d) m)) ut1 lod rate ≡ bytes)
-    × (read_of bytes ≡ IsRecord (record_with (pos d) m ut1 lod rate))
+    × (read_of bytes ≡ Ok (record_with (pos d) m ut1 lod rate))
 Says (uncertainty_is d m u) = uncertainty_of (nutation_of (pos d) m) ≡ u
-Says (utc_is r d m) = (tt_of r ≡ AtInstant (instant (pos d) m)) × (utc_of (pos d) m ≡ AtReading r)
-Says (utc_refused r n) = tt_of r ≡ NoInstant n
+Says (utc_is r d m) = (tt_of r ≡ Ok (instant (pos d) m)) × (utc_of (pos d) m ≡ Ok r)
+Says (utc_refused r n) = tt_of r ≡ Err n
 
 -- every row of a list
 unfoldable pub EveryRow : List Row → Type 0

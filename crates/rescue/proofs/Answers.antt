@@ -12,14 +12,15 @@ use Rattle.instants.proofs.Impossible.{impossible}
 use Rattle.instants.proofs.FirstRefusal.{NoneApplies, answered_none, none_answered, refused_alike}
 use Rattle.record.specs.Format.{record_length}
 use Rattle.rescue.specs.declared.Counts.{Counts}
-use Rattle.rescue.specs.declared.RescueAnswer.TheVariants.{Rescued, NoRescue}
 use Rattle.rescue.specs.Rescue.{most_bytes, entry_length, kept_count, ranges_in, counts_of, kept_bytes, list_bytes, short, rescue_cases, rescue_of, records_after, list_after}
 use Rattle.rescue.specs.Inner.{Fits}
+use Rattle.std.specs.Prelude.{Ok, Err}
+use Rattle.instants.specs.declared.refusal.Refusal.TheVariants.{BufferShort, RescueLength}
 
 -- ---- the code's tests
 
 module _ (s : List ℕ) (n m : ℕ) where
-  pub too_many : most_bytes < length s → NoRescue 25 ≡ rescue_of s n m
+  pub too_many : most_bytes < length s → Err RescueLength ≡ rescue_of s n m
   unfolding rescue_of
   too_many h = simp (lt-ltb most_bytes (length s) h)
 
@@ -27,20 +28,20 @@ module _ (s : List ℕ) (n m : ℕ) where
   pub tested : (a : Counts) (b : Bool) → a ≡ counts_of s → short a n m ≡ b → short (counts_of s) n m ≡ b
   tested a b p e = ap (λ (x : Counts). short x n m) (sym p) ∙ e
 
-  pub too_short : length s ≤ most_bytes → short (counts_of s) n m ≡ true → NoRescue 12 ≡ rescue_of s n m
+  pub too_short : length s ≤ most_bytes → short (counts_of s) n m ≡ true → Err BufferShort ≡ rescue_of s n m
   unfolding rescue_of
   too_short h e = rw (le-ltb most_bytes (length s) h, e) refl
 
-  pub counted : length s ≤ most_bytes → short (counts_of s) n m ≡ false → Rescued (counts_of s) ≡ rescue_of s n m
+  pub counted : length s ≤ most_bytes → short (counts_of s) n m ≡ false → Ok (counts_of s) ≡ rescue_of s n m
   unfolding rescue_of
   counted h e = rw (le-ltb most_bytes (length s) h, e) refl
 
 -- ---- an answer that was given
 
-module _ (s : List ℕ) (n m : ℕ) (a : Counts) (e : rescue_of s n m ≡ Rescued a) where
-  given : NoneApplies (rescue_cases s n m) × (Rescued (counts_of s) ≡ Rescued a)
+module _ (s : List ℕ) (n m : ℕ) (a : Counts) (e : rescue_of s n m ≡ Ok a) where
+  given : NoneApplies (rescue_cases s n m) × (Ok (counts_of s) ≡ Ok a)
   unfolding rescue_of
-  given = answered_none NoRescue (rescue_cases s n m) (Rescued (counts_of s)) (Rescued a) (λ k p. impossible (cc)) e
+  given = answered_none Err (rescue_cases s n m) (Ok (counts_of s)) (Ok a) (λ k p. impossible (cc)) e
 
   -- both buffers hold the whole answer
   pub given_fits : Fits s n m
@@ -49,10 +50,10 @@ module _ (s : List ℕ) (n m : ℕ) (a : Counts) (e : rescue_of s n m ≡ Rescue
       record { few = ltb-false most_bytes (length s) given.0.0; records = ltb-false n (record_length * kept_count s) t.0; list = ltb-false m (entry_length * length (ranges_in s)) t.1 }
 
   pub given_counts : a ≡ counts_of s
-  given_counts = let g : Rescued (counts_of s) ≡ Rescued a = given.1 in cc
+  given_counts = let g : Ok (counts_of s) ≡ Ok a = given.1 in cc
 
 -- the buffers after it
-module _ (s records list : List ℕ) (a : Counts) (e : rescue_of s (length records) (length list) ≡ Rescued a) where
+module _ (s records list : List ℕ) (a : Counts) (e : rescue_of s (length records) (length list) ≡ Ok a) where
   pub records_given : records_after s (length list) records ≡ at_front (kept_bytes s) records
   unfolding records_after
   records_given = none_answered (λ _. records) (rescue_cases s (length records) (length list)) _ (given s _ _ a e).0
@@ -62,11 +63,11 @@ module _ (s records list : List ℕ) (a : Counts) (e : rescue_of s (length recor
   list_given = none_answered (λ _. list) (rescue_cases s (length records) (length list)) _ (given s _ _ a e).0
 
 -- and after a refusal
-module _ (s records list : List ℕ) (n : ℕ) (e : rescue_of s (length records) (length list) ≡ NoRescue n) where
+module _ (s records list : List ℕ) (n : ℕ) (e : rescue_of s (length records) (length list) ≡ Err n) where
   pub records_refused : records_after s (length list) records ≡ records
   unfolding records_after rescue_of
-  records_refused = refused_alike NoRescue (λ _. records) (rescue_cases s (length records) (length list)) _ _ n (λ k p. cc) (λ p. impossible (cc)) e
+  records_refused = refused_alike Err (λ _. records) (rescue_cases s (length records) (length list)) _ _ n (λ k p. cc) (λ p. impossible (cc)) e
 
   pub list_refused : list_after s (length records) list ≡ list
   unfolding list_after rescue_of
-  list_refused = refused_alike NoRescue (λ _. list) (rescue_cases s (length records) (length list)) _ _ n (λ k p. cc) (λ p. impossible (cc)) e
+  list_refused = refused_alike Err (λ _. list) (rescue_cases s (length records) (length list)) _ _ n (λ k p. cc) (λ p. impossible (cc)) e

@@ -11,8 +11,6 @@ use lib.ListN.{length, take, drop, get_or, set, length-drop, length-append, leng
 use lib.Seq.{take_all, get_or-drop, take-set-le, drop-set-lt, drop-set-add}
 use borrow.Author.Tests.{lt-ltb}
 use Rattle.bigendian.specs.Numbers.{Bytes}
-use Rattle.record.specs.declared.ReadAnswer.{ReadAnswer}
-use Rattle.record.specs.declared.ReadAnswer.TheVariants.{IsRecord, NoRecord}
 use Rattle.record.specs.Format.{record_length}
 use Rattle.record.specs.Records.{read_of, is_record}
 use Rattle.record.proofs.Kept.{read_front}
@@ -25,6 +23,9 @@ use Rattle.rescue.proofs.Hops.{record_places, over, all_kept}
 use Rattle.rescue.proofs.Ranges.{joined_places}
 use Rattle.rescue.proofs.Entries.{records_append}
 use Rattle.rescue.proofs.Whole.{records_there, places_count}
+use Rattle.std.specs.Prelude.{Result, Ok, Err}
+use Rattle.record.specs.declared.Record.{Record}
+use Rattle.instants.specs.declared.refusal.Refusal.{Refusal}
 
 -- ---- one byte and the records around it
 
@@ -49,10 +50,10 @@ changed s i q b y e l h n = ap (λ (l : List ℕ). is_record (read_of l)) (drop-
     part : Bytes (drop i s)
     part = record { byte = λ j. subst (λ (x : ℕ). x < 256) (sym (get_or-drop i s j 0)) (y.byte (i + j)) }
 
-    by : (a c : ReadAnswer) → read_of (drop i s) ≡ a → read_of (set (drop i s) q b) ≡ c → is_record a ≡ true → is_record c ≡ false
-    by (NoRecord k) c p r f = absurd (true≢false (sym f))
-    by (IsRecord x) (NoRecord k) p r f = refl
-    by (IsRecord x) (IsRecord z) p r f = absurd (changed_byte (drop i s) x q b part p l h (λ g. n (sym (get_or-drop i s q 0) ∙ g)) z r)
+    by : (a c : (Result Record Refusal)) → read_of (drop i s) ≡ a → read_of (set (drop i s) q b) ≡ c → is_record a ≡ true → is_record c ≡ false
+    by (Err k) c p r f = absurd (true≢false (sym f))
+    by (Ok x) (Err k) p r f = refl
+    by (Ok x) (Ok z) p r f = absurd (changed_byte (drop i s) x q b part p l h (λ g. n (sym (get_or-drop i s q 0) ∙ g)) z r)
 
 -- ---- n records, of which record m has another byte at its place q
 

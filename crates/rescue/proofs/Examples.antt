@@ -13,10 +13,11 @@ use Rattle.algebra.proofs.Tests.{every, each}
 use Rattle.instants.specs.Instants.{outside}
 use Rattle.record.specs.Format.{record_length}
 use Rattle.record.specs.Records.{read_of}
-use Rattle.rescue.specs.declared.RescueAnswer.TheVariants.{Rescued, NoRescue}
 use Rattle.rescue.specs.Walk.{has_record, stepping, walk_from, ranges_of}
 use Rattle.rescue.specs.Rescue.{kept_count, ranges_in, passed_count, rescue_of}
 use Rattle.rescue.specs.Claims.{places_from, WholeRecords}
+use Rattle.std.specs.Prelude.{Ok, Err}
+use Rattle.instants.specs.declared.refusal.Refusal.TheVariants.{BufferShort}
 
 -- a record of day 54465, 0 h
 abbrev one : List ℕ
@@ -80,8 +81,8 @@ none_inside k l h = not_true (has_record damaged k) (at_places (λ i. not (has_r
 
 -- PROMISE. One record is kept and thirty bytes are passed, in one range; a byte less in either buffer is refused.
 pub damaged_answers :
-    (rescue_of damaged 30 8 ≡ Rescued (record { kept = 1; ranges = 1; passed = 30 }))
-    × (rescue_of damaged 29 8 ≡ NoRescue 12)
-    × (rescue_of damaged 30 7 ≡ NoRescue 12)
+    (rescue_of damaged 30 8 ≡ Ok (record { kept = 1; ranges = 1; passed = 30 }))
+    × (rescue_of damaged 29 8 ≡ Err BufferShort)
+    × (rescue_of damaged 30 7 ≡ Err BufferShort)
 unfolding read_of word_sum outside stepping walk_from ranges_of kept_count ranges_in passed_count rescue_of
 damaged_answers = (refl, refl, refl)

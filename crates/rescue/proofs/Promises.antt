@@ -17,7 +17,6 @@ use Rattle.instants.proofs.FirstRefusal.{handed_on, none_answered, refused_first
 use Rattle.record.specs.Format.{record_length}
 use Rattle.record.specs.Records.{read_of, is_record}
 use Rattle.record.proofs.Kept.{read_front}
-use Rattle.rescue.specs.declared.RescueAnswer.TheVariants.{Rescued, NoRescue}
 use Rattle.rescue.specs.Walk.{Range, range, walk, has_record}
 use Rattle.rescue.specs.Rescue.{most_bytes, entry_length, kept_count, ranges_in, passed_count, counts_of, records_at, kept_bytes, list_bytes, rescue_cases, rescue_of, records_after, list_after, kept_of, ranges_number_of, passed_of, rescue_refusal_of}
 use Rattle.rescue.specs.Claims.{Each, listed, WholeRecords}
@@ -25,20 +24,21 @@ use Rattle.rescue.proofs.Entries.{list_length}
 use Rattle.rescue.proofs.Ranges.{Within, ranges_within, ranges_few}
 use Rattle.rescue.proofs.Covers.{kept_read, kept_within}
 use Rattle.rescue.proofs.Rounds.{kept_few, kept_length}
+use Rattle.std.specs.Prelude.{Ok, Err}
 
 -- ---- the refusal, and what stands beside it
 
 -- PROMISE. The refusal is the first of the list that applies.
 pub rescue_refusal : (s : List ℕ) (n m : ℕ) → rescue_refusal_of (rescue_of s n m) ≡ first_refusal (rescue_cases s n m)
 unfolding rescue_of
-rescue_refusal s n m = handed_on NoRescue rescue_refusal_of (λ k. refl) (rescue_cases s n m) _
+rescue_refusal s n m = handed_on Err rescue_refusal_of (λ k. refl) (rescue_cases s n m) _
 
 module _ (s : List ℕ) (n m : ℕ) (h : rescue_refusal_of (rescue_of s n m) ≡ 0 → ⊥) where
   -- PROMISE. Beside a refusal the three numbers are 0.
   pub rescue_zeroed : (kept_of (rescue_of s n m) ≡ 0) × (ranges_number_of (rescue_of s n m) ≡ 0) × (passed_of (rescue_of s n m) ≡ 0)
   unfolding rescue_of
   rescue_zeroed =
-      let e : rescue_of s n m ≡ NoRescue (first_refusal (rescue_cases s n m)) = refused_first NoRescue (rescue_cases s n m) _ (λ z. h (rescue_refusal s n m ∙ z)) in
+      let e : rescue_of s n m ≡ Err (first_refusal (rescue_cases s n m)) = refused_first Err (rescue_cases s n m) _ (λ z. h (rescue_refusal s n m ∙ z)) in
       (ap kept_of e, ap ranges_number_of e, ap passed_of e)
 
 -- PROMISE. And both buffers are as they were.
@@ -56,7 +56,7 @@ pub rescue_numbers : (s : List ℕ) (n m : ℕ) → rescue_refusal_of (rescue_of
     → (kept_of (rescue_of s n m) ≡ kept_count s) × (ranges_number_of (rescue_of s n m) ≡ length (ranges_in s)) × (passed_of (rescue_of s n m) ≡ passed_count s)
 unfolding rescue_of
 rescue_numbers s n m z =
-    let e : rescue_of s n m ≡ Rescued (counts_of s) = none_answered NoRescue (rescue_cases s n m) _ (first_none (rescue_cases s n m) tt (sym (rescue_refusal s n m) ∙ z)) in
+    let e : rescue_of s n m ≡ Ok (counts_of s) = none_answered Err (rescue_cases s n m) _ (first_none (rescue_cases s n m) tt (sym (rescue_refusal s n m) ∙ z)) in
     (ap kept_of e, ap ranges_number_of e, ap passed_of e)
 
 -- PROMISE. And the buffers have the kept records and the list at their fronts, and behind them what was there.

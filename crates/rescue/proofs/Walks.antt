@@ -9,12 +9,13 @@ use native.Mathlib.Decide.{dec_lt}
 use lib.Dec.{ltb}
 use lib.ListN.{length, drop, length-drop}
 use borrow.Author.Tests.{lt-ltb, le-ltb}
-use Rattle.record.specs.declared.ReadAnswer.{ReadAnswer}
-use Rattle.record.specs.declared.ReadAnswer.TheVariants.{IsRecord, NoRecord}
 use Rattle.record.specs.Format.{record_length}
 use Rattle.record.specs.Records.{read_of, is_record}
 use Rattle.record.proofs.Forms.{was_read}
 use Rattle.rescue.specs.Walk.{Walk, has_record, ended, keeping, passing, stepping, walk_from}
+use Rattle.std.specs.Prelude.{Result, Ok, Err}
+use Rattle.record.specs.declared.Record.{Record}
+use Rattle.instants.specs.declared.refusal.Refusal.{Refusal}
 
 -- ---- a record takes thirty bytes
 
@@ -22,9 +23,9 @@ use Rattle.rescue.specs.Walk.{Walk, has_record, ended, keeping, passing, steppin
 long_enough : (s : List ℕ) → is_record (read_of s) ≡ true → record_length ≤ length s
 long_enough s e = by (read_of s) refl e
   where
-    by : (a : ReadAnswer) → read_of s ≡ a → is_record a ≡ true → record_length ≤ length s
-    by (IsRecord r) q e = (was_read s r q).form.long
-    by (NoRecord n) q e = absurd (true≢false (sym e))
+    by : (a : (Result Record Refusal)) → read_of s ≡ a → is_record a ≡ true → record_length ≤ length s
+    by (Ok r) q e = (was_read s r q).form.long
+    by (Err n) q e = absurd (true≢false (sym e))
 
 pub record_within : (s : List ℕ) (i : ℕ) → has_record s i ≡ true → i + record_length ≤ length s
 record_within s i e = omega (arith, long_enough (drop i s) e, length-drop i s)

@@ -1,13 +1,13 @@
 -- Service (i): what is given for bytes s, and two buffers of n and m bytes for the records and the list of ranges.
-use Rattle.std.specs.Prelude.{ℕ, ◌*◌, Bool, ◌||◌, List, [], ◌∷◌, ◌++◌, ltb, length, take, drop}
+use Rattle.std.specs.Prelude.{ℕ, ◌*◌, Bool, ◌||◌, List, [], ◌∷◌, ◌++◌, ltb, length, take, drop, Result, Ok, Err}
 use Rattle.bigendian.specs.Numbers.{bytes_of}
 use Rattle.bigendian.specs.Buffers.{at_front}
-use Rattle.instants.specs.Refusals.{Case, case, refused_or}
+use Rattle.instants.specs.Refusals.{Case, case, refused_or, refusal_of}
 use Rattle.record.specs.Format.{record_length}
 use Rattle.rescue.specs.declared.Counts.{Counts}
-use Rattle.rescue.specs.declared.RescueAnswer.{RescueAnswer}
-use Rattle.rescue.specs.declared.RescueAnswer.TheVariants.{Rescued, NoRescue}
 use Rattle.rescue.specs.Walk.{Range, walk, ranges_of}
+use Rattle.instants.specs.declared.refusal.Refusal.{Refusal}
+use Rattle.instants.specs.declared.refusal.Refusal.TheVariants.{BufferShort, RescueLength}
 
 -- the most bytes of an input
 abbrev pub most_bytes : ℕ
@@ -59,7 +59,7 @@ list_bytes (r ∷ rs) = entry_bytes r ++ list_bytes rs
 
 -- the refusals of an input by itself
 abbrev pub input_cases : List ℕ → List Case
-input_cases s = case 25 (ltb most_bytes (length s)) ∷ []
+input_cases s = case RescueLength (ltb most_bytes (length s)) ∷ []
 
 -- a buffer is too short for so many records, or for so many ranges
 abbrev pub short : Counts → (n m : ℕ) → Bool
@@ -67,11 +67,11 @@ short c n m = ltb n (record_length * c.kept) || ltb m (entry_length * c.ranges)
 
 -- the refusals: of the input, and of the buffers
 abbrev pub rescue_cases : List ℕ → (n m : ℕ) → List Case
-rescue_cases s n m = input_cases s ++ case 12 (short (counts_of s) n m) ∷ []
+rescue_cases s n m = input_cases s ++ case BufferShort (short (counts_of s) n m) ∷ []
 
 -- the numbers of kept records, of ranges and of passed bytes, or the first refusal
-unfoldable pub rescue_of : List ℕ → (n m : ℕ) → RescueAnswer
-rescue_of s n m = refused_or NoRescue (rescue_cases s n m) (Rescued (counts_of s))
+unfoldable pub rescue_of : List ℕ → (n m : ℕ) → Result Counts Refusal
+rescue_of s n m = refused_or Err (rescue_cases s n m) (Ok (counts_of s))
 
 -- the records' buffer afterwards, beside m bytes for the list: as it was on a refusal, else with the kept records at its front
 unfoldable pub records_after : List ℕ → (m : ℕ) → List ℕ → List ℕ
@@ -84,21 +84,20 @@ list_after s n old = refused_or (λ _. old) (rescue_cases s n (length old)) (at_
 -- ---- the numbers of an answer: 0 beside a refusal
 
 -- kept records
-abbrev pub kept_of : RescueAnswer → ℕ
-kept_of (Rescued a) = a.kept
-kept_of (NoRescue n) = 0
+abbrev pub kept_of : Result Counts Refusal → ℕ
+kept_of (Ok a) = a.kept
+kept_of (Err n) = 0
 
 -- ranges
-abbrev pub ranges_number_of : RescueAnswer → ℕ
-ranges_number_of (Rescued a) = a.ranges
-ranges_number_of (NoRescue n) = 0
+abbrev pub ranges_number_of : Result Counts Refusal → ℕ
+ranges_number_of (Ok a) = a.ranges
+ranges_number_of (Err n) = 0
 
 -- passed bytes
-abbrev pub passed_of : RescueAnswer → ℕ
-passed_of (Rescued a) = a.passed
-passed_of (NoRescue n) = 0
+abbrev pub passed_of : Result Counts Refusal → ℕ
+passed_of (Ok a) = a.passed
+passed_of (Err n) = 0
 
 -- the refusal number, 0 for none
-abbrev pub rescue_refusal_of : RescueAnswer → ℕ
-rescue_refusal_of (Rescued a) = 0
-rescue_refusal_of (NoRescue n) = n
+abbrev pub rescue_refusal_of : Result Counts Refusal → ℕ
+rescue_refusal_of = refusal_of

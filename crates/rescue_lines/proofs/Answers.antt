@@ -13,8 +13,6 @@ use Rattle.instants.proofs.FirstRefusal.{in_both_lem, refused_alike}
 use Rattle.instants.proofs.Impossible.{impossible}
 use Rattle.record.specs.Format.{record_length}
 use Rattle.rescue.specs.declared.Counts.{Counts}
-use Rattle.rescue.specs.declared.RescueAnswer.{RescueAnswer}
-use Rattle.rescue.specs.declared.RescueAnswer.TheVariants.{Rescued, NoRescue}
 use Rattle.rescue.specs.Walk.{Range}
 use Rattle.rescue.specs.Rescue.{most_bytes, entry_length, kept_count, ranges_in, counts_of, list_bytes, input_cases, rescue_of, records_after, list_after}
 use Rattle.rescue.specs.Inner.{Fits}
@@ -26,6 +24,8 @@ use Rattle.rescue.proofs.Promises.{rescue_most, front_reads_back}
 use Rattle.text.specs.Text.{refusal_text}
 use Rattle.rescue_lines.specs.Lines.{lines_text, totals_text, records_text, report_text}
 use Rattle.rescue_lines.proofs.Promises.{records_accepted, report_accepted}
+use Rattle.std.specs.Prelude.{Result, Ok, Err}
+use Rattle.instants.specs.declared.refusal.Refusal.{Refusal}
 
 -- the bytes of the two buffers that a rescue fills
 abbrev records_room : ℕ
@@ -37,26 +37,26 @@ list_room = 16920
 -- ---- refused
 
 -- into these buffers a rescue is refused for its input alone
-roomy : (s : List ℕ) → rescue_of s records_room list_room ≡ refused_or NoRescue (input_cases s) (Rescued (counts_of s))
+roomy : (s : List ℕ) → rescue_of s records_room list_room ≡ refused_or Err (input_cases s) (Ok (counts_of s))
 unfolding rescue_of
 roomy s =
-    in_both_lem (λ (x y : RescueAnswer). x ≡ y) NoRescue NoRescue (input_cases s) _ _ (λ k. refl)
+    in_both_lem (λ (x y : (Result Counts Refusal)). x ≡ y) Err Err (input_cases s) _ _ (λ k. refl)
     (λ h.
     let m = rescue_most s (ltb-false most_bytes (length s) h.0) in
     rw (le-ltb records_room (record_length * kept_count s) m.0, le-ltb list_room (entry_length * length (ranges_in s)) m.1) refl)
 
-module _ (s : List ℕ) (n : ℕ) (e : rescue_of s records_room list_room ≡ NoRescue n) where
+module _ (s : List ℕ) (n : ℕ) (e : rescue_of s records_room list_room ≡ Err n) where
   pub none_written : records_text s ≡ []
   unfolding records_text
-  none_written = refused_alike NoRescue (λ _. []) (input_cases s) (Rescued (counts_of s)) _ n (λ k p. cc) (λ p. impossible (cc)) (sym (roomy s) ∙ e)
+  none_written = refused_alike Err (λ _. []) (input_cases s) (Ok (counts_of s)) _ n (λ k p. cc) (λ p. impossible (cc)) (sym (roomy s) ∙ e)
 
   pub refusal_written : refusal_text n ≡ report_text s
   unfolding report_text
-  refusal_written = sym (refused_alike NoRescue refusal_text (input_cases s) (Rescued (counts_of s)) _ n (λ k p. cc) (λ p. impossible (cc)) (sym (roomy s) ∙ e))
+  refusal_written = sym (refused_alike Err refusal_text (input_cases s) (Ok (counts_of s)) _ n (λ k p. cc) (λ p. impossible (cc)) (sym (roomy s) ∙ e))
 
 -- ---- answered
 
-module _ (s : List ℕ) (a : Counts) (e : rescue_of s records_room list_room ≡ Rescued a) where
+module _ (s : List ℕ) (a : Counts) (e : rescue_of s records_room list_room ≡ Ok a) where
   counts_are : a ≡ counts_of s
   counts_are = given_counts s records_room list_room a e
 
@@ -76,7 +76,7 @@ module _ (s : List ℕ) (a : Counts) (e : rescue_of s records_room list_room ≡
 
   -- the buffers after the rescue
   module _ (records list : List ℕ) (r : length records ≡ records_room) (l : length list ≡ list_room) where
-    same : rescue_of s (length records) (length list) ≡ Rescued a
+    same : rescue_of s (length records) (length list) ≡ Ok a
     same = ap₂ (rescue_of s) r l ∙ e
 
     pub records_written : records_after s (length list) records ≡ at_front (records_text s) records

@@ -5,6 +5,7 @@ use Rattle.bigendian.specs.Fields.{field, field_at, signed_at, in_field, signed_
 use Rattle.instants.specs.Refusals.{Case, case, first_refusal}
 use Rattle.rows.specs.declared.Row.{Row}
 use Rattle.rows.specs.Table.{row, fewest_rows, most_rows, table_cases}
+use Rattle.instants.specs.declared.refusal.Refusal.TheVariants.{RowsLength, RowsVersion}
 
 -- ---- the layout: a head, then the rows
 
@@ -93,16 +94,16 @@ table_in s = rows_in (row_count (length s)) (drop head_length s)
 -- of the length: a head that is not whole, a length field that is not the length, a length that no table has
 abbrev pub length_cases : List ℕ → List Case
 length_cases s =
-    case 21 (ltb (length s) head_length)
-    ∷ case 21 (not (eqb (field_at s length_field) (length s)))
-    ∷ case 21 (ltb (row_count (length s)) fewest_rows)
-    ∷ case 21 (ltb most_rows (row_count (length s)))
-    ∷ case 21 (not (eqb (length s) (form_length (row_count (length s)))))
+    case RowsLength (ltb (length s) head_length)
+    ∷ case RowsLength (not (eqb (field_at s length_field) (length s)))
+    ∷ case RowsLength (ltb (row_count (length s)) fewest_rows)
+    ∷ case RowsLength (ltb most_rows (row_count (length s)))
+    ∷ case RowsLength (not (eqb (length s) (form_length (row_count (length s)))))
     ∷ []
 
 -- of the form: the length, and the version
 abbrev pub form_cases : List ℕ → List Case
-form_cases s = length_cases s ++ case 22 (not (eqb (field_at s version_field) version)) ∷ []
+form_cases s = length_cases s ++ case RowsVersion (not (eqb (field_at s version_field) version)) ∷ []
 
 -- of the bytes: the form, and the rules of a table
 abbrev pub bytes_cases : List ℕ → List Case

@@ -4,6 +4,7 @@ use Rattle.std.specs.Prelude.{◌≡◌, Bool, false, ◌||◌, List, [], ◌∷
 use Rattle.algebra.specs.Integers.{+◌}
 use Rattle.instants.specs.Refusals.{Case, case}
 use Rattle.rows.specs.declared.Row.{Row}
+use Rattle.instants.specs.declared.refusal.Refusal.TheVariants.{RowsDay, RowsSize}
 
 -- a row: the day number of its date, XC, XS and the uncertainty
 abbrev pub row : ℕ → ℤ → ℤ → ℕ → Row
@@ -65,7 +66,7 @@ numbers_wrong rows = some_below (length rows) (λ i. number_out (row_at rows i))
 
 -- the refusals, each looked for in all rows before the next
 abbrev pub table_cases : List Row → List Case
-table_cases rows = case 23 (days_wrong rows) ∷ case 24 (numbers_wrong rows) ∷ []
+table_cases rows = case RowsDay (days_wrong rows) ∷ case RowsSize (numbers_wrong rows) ∷ []
 
 -- a table that is accepted: its number of rows is within the limits, and neither refusal applies
 pub record AcceptedTable (rows : List Row) : Type 0 where

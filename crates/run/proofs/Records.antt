@@ -18,10 +18,10 @@ use Rattle.record.specs.Format.{record_length}
 use Rattle.record.specs.Records.{written}
 use Rattle.record.proofs.Written.{written_is, record_length_lem}
 use Rattle.zonal.specs.declared.Corrections.{Corrections}
-use Rattle.zonal.specs.declared.ZonalAnswer.TheVariants.{Zonal, NoZonal}
 use Rattle.zonal.specs.Ours.{zonal_of}
 use Rattle.run.specs.Run.{end_cases, run_cases, run_refusal, record_at, run_bytes, run_written}
 use Rattle.run.specs.Inner.{written_at}
+use Rattle.std.specs.Prelude.{Ok, Err}
 
 -- the record of an accepted instant, written at the front of a buffer with room for it
 written_accepted : (d : ℤ) (m : ℕ) (old : List ℕ) → IsAccepted d m → record_length ≤ length old → written_at d m old ≡ at_front (record_at d m) old
@@ -29,12 +29,12 @@ unfolding written_at record_at
 written_accepted d m old a h = written_is d m _ _ _ old a h
 
 -- an instant without corrections has no record
-pub written_refused : (d : ℤ) (m n : ℕ) (old : List ℕ) → zonal_of d m ≡ NoZonal n → old ≡ written_at d m old
+pub written_refused : (d : ℤ) (m n : ℕ) (old : List ℕ) → zonal_of d m ≡ Err n → old ≡ written_at d m old
 unfolding written_at written zonal_of
-written_refused d m n old e = sym (refused_alike NoZonal (λ _. old) (instant_cases d m) _ _ n (λ k p. cc) (λ p. impossible (cc)) e)
+written_refused d m n old e = sym (refused_alike Err (λ _. old) (instant_cases d m) _ _ n (λ k p. cc) (λ p. impossible (cc)) e)
 
 -- and one with corrections has that of its numbers
-pub written_given : (d : ℤ) (m : ℕ) (c : Corrections) (old : List ℕ) → zonal_of d m ≡ Zonal c → written d m c.ut1 c.lod c.rate old ≡ written_at d m old
+pub written_given : (d : ℤ) (m : ℕ) (c : Corrections) (old : List ℕ) → zonal_of d m ≡ Ok c → written d m c.ut1 c.lod c.rate old ≡ written_at d m old
 unfolding written_at
 written_given d m c old e = rw e refl
 

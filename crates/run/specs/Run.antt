@@ -8,6 +8,7 @@ use Rattle.instants.specs.Instants.{instant_cases, later_day, later_micros}
 use Rattle.clock.specs.Words.{words, time_word}
 use Rattle.record.specs.Format.{record_length, record_bytes}
 use Rattle.zonal.specs.Ours.{zonal_of, ut1_of, lod_of, rate_of}
+use Rattle.instants.specs.declared.refusal.Refusal.TheVariants.{Day, BufferShort, RunCount, RunStep}
 
 -- the most records of a run
 abbrev pub most_records : ℕ
@@ -23,11 +24,11 @@ bad_step step = ltb step 1 || ltb day_micros step
 
 -- the refusals behind those of the start: a last instant past the last day, count - 1 steps after the start, and a buffer of n bytes
 abbrev pub end_cases : ℤ → ℕ → (count step n : ℕ) → List Case
-end_cases d m count step n = case 8 (lt_z last_day (later_day d m ((count - 1) * step))) ∷ case 12 (ltb n (record_length * count)) ∷ []
+end_cases d m count step n = case Day (lt_z last_day (later_day d m ((count - 1) * step))) ∷ case BufferShort (ltb n (record_length * count)) ∷ []
 
 -- the refusals of a run from the instant d, m into a buffer of n bytes: of its count, its step and its start, and then those
 abbrev pub run_cases : ℤ → ℕ → (count step n : ℕ) → List Case
-run_cases d m count step n = case 17 (bad_count count) ∷ case 18 (bad_step step) ∷ instant_cases d m ++ end_cases d m count step n
+run_cases d m count step n = case RunCount (bad_count count) ∷ case RunStep (bad_step step) ∷ instant_cases d m ++ end_cases d m count step n
 
 -- the first refusal of a run, or 0
 unfoldable pub run_refusal : ℤ → ℕ → (count step n : ℕ) → ℕ

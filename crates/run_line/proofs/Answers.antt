@@ -5,13 +5,11 @@ use mathlib.Core.Path.{◌≡◌, refl, sym}
 use lib.IntN.{ℤ}
 use lib.ListN.{length}
 use mathlib.Core.List.{List}
-use Rattle.calendar.specs.declared.DayAnswer.TheVariants.{Day, NoDay}
 use Rattle.instants.specs.Refusals.{refused_or}
 use Rattle.calendar.specs.Dates.{date_cases, day_of}
 use Rattle.instants.proofs.Impossible.{impossible}
 use Rattle.instants.proofs.FirstRefusal.{refused_alike, answered_none, none_answered, refused_first, first_none}
 use Rattle.line.specs.declared.Line.{Line}
-use Rattle.line.specs.declared.LineAnswer.TheVariants.{Parsed, BadLine}
 use Rattle.line.specs.Lines.{line_of}
 use Rattle.record.specs.Format.{record_length}
 use Rattle.run.specs.Run.{run_refusal, run_written, run_bytes}
@@ -21,6 +19,7 @@ use Rattle.text.specs.Text.{refusal_text}
 use Rattle.text.proofs.Pieces.{Puts}
 use Rattle.run_line.specs.Words.{bad_text}
 use Rattle.run_line.specs.Answer.{room, line_day, day_run_cases, day_run_text, answer_text}
+use Rattle.std.specs.Prelude.{Ok, Err, Some, None}
 
 -- ---- the run of a day
 
@@ -48,21 +47,21 @@ module _ (d : ℤ) (count step : ℕ) where
 -- ---- a line
 
 module _ (s : List ℕ) where
-  pub bad : line_of s ≡ BadLine → bad_text ≡ answer_text s
+  pub bad : line_of s ≡ None → bad_text ≡ answer_text s
   unfolding answer_text
   bad e = rw e refl
 
-  module _ (l : Line) (e : line_of s ≡ Parsed l) where
-    pub no_date : (n : ℕ) → day_of l.year l.month l.day ≡ NoDay n → refusal_text n ≡ answer_text s
+  module _ (l : Line) (e : line_of s ≡ Some l) where
+    pub no_date : (n : ℕ) → day_of l.year l.month l.day ≡ Err n → refusal_text n ≡ answer_text s
     unfolding answer_text day_of
     no_date n f =
-        rw e (sym (refused_alike NoDay refusal_text (date_cases l.year l.month l.day) (Day (line_day l)) _ n (λ k p. cc) (λ p. impossible (cc)) f))
+        rw e (sym (refused_alike Err refusal_text (date_cases l.year l.month l.day) (Ok (line_day l)) _ n (λ k p. cc) (λ p. impossible (cc)) f))
 
-    pub on_date : (d : ℤ) → day_of l.year l.month l.day ≡ Day d → day_run_text d l.count l.step ≡ answer_text s
+    pub on_date : (d : ℤ) → day_of l.year l.month l.day ≡ Ok d → day_run_text d l.count l.step ≡ answer_text s
     unfolding answer_text day_of
     on_date d f =
         let cs = date_cases l.year l.month l.day in
-        let r = answered_none NoDay cs (Day (line_day l)) (Day d) (λ n p. impossible (cc)) f in
-        let g : Day (line_day l) ≡ Day d = r.1 in
+        let r = answered_none Err cs (Ok (line_day l)) (Ok d) (λ n p. impossible (cc)) f in
+        let g : Ok (line_day l) ≡ Ok d = r.1 in
         let h : d ≡ line_day l = cc in
         rw (e, h) (sym (none_answered refusal_text cs _ r.0))

@@ -7,14 +7,11 @@ use mathlib.Core.List.{List, [], ◌∷◌, ◌++◌}
 use native.Mathlib.Omega.{arith}
 use lib.ListN.{length, take, get_or}
 use borrow.Author.Tests.{le-ltb, le-leb}
-use Rattle.calendar.specs.declared.DayAnswer.TheVariants.{Day, NoDay}
 use Rattle.instants.specs.Refusals.{case, refused_or, first_refusal}
 use Rattle.calendar.specs.Dates.{date, leap_year, month_lengths, month_length, sum, year_length, days_of_years, days_before, date_index, date_cases, day_of}
 use Rattle.instants.proofs.FirstRefusal.{NoneApplies, in_both_lem, in_each, none_both, none_answered, first_below}
 use Rattle.calendar.proofs.Inverse.{there_and_back, date_range}
 use Rattle.line.specs.declared.Line.{Line}
-use Rattle.line.specs.declared.LineAnswer.{LineAnswer}
-use Rattle.line.specs.declared.LineAnswer.TheVariants.{Parsed, BadLine}
 use Rattle.line.specs.Lines.{newline, is_digit, digits, decimal_from, read_number, line_of}
 use Rattle.line.specs.Grammar.{Writes, IsLine}
 use Rattle.line.proofs.Grammar.{parsed_exactly, first_bytes, no_newline}
@@ -32,20 +29,22 @@ use Rattle.run_line.specs.Words.{bad_text}
 use Rattle.run_line.specs.Answer.{room, line_day, day_run_text, line_text, answer_text}
 use Rattle.run_line.specs.Claims.{short_run_cases, short_cases, line_run}
 use Rattle.run_line.proofs.Answers.{bad}
+use Rattle.std.specs.Prelude.{Ok, Err, Option, Some, None}
+use Rattle.instants.specs.declared.refusal.Refusal.TheVariants.{RunCount}
 
 -- ---- the refusals
 
 -- PROMISE. For a line of five numbers the program writes the first of these refusals that applies: 1, 2 and 3 for the date, 17 for the count, 18 for the
 -- step, and 8 for a last instant past the last day; or else the run's records, from 0 h of the line's date on.
-pub line_answer : (s : List ℕ) (l : Line) → line_of s ≡ Parsed l → answer_text s ≡ refused_or refusal_text (short_cases l) (line_run l)
+pub line_answer : (s : List ℕ) (l : Line) → line_of s ≡ Some l → answer_text s ≡ refused_or refusal_text (short_cases l) (line_run l)
 unfolding answer_text day_run_text day_of
 line_answer s l e =
     rw e
     (in_both_lem (λ (x y : List ℕ). x ≡ y) refusal_text refusal_text (date_cases l.year l.month l.day) _ _ (λ k. refl)
     (λ h.
     let z = line_day l in
-    let o = (date_range z (date l.year l.month l.day) (there_and_back l.year l.month l.day z (none_answered NoDay (date_cases l.year l.month l.day) (Day z) h))).0 in
-    in_both_lem (λ (x y : List ℕ). x ≡ y) refusal_text refusal_text (case 17 (bad_count l.count) ∷ []) _ _ (λ k. refl)
+    let o = (date_range z (date l.year l.month l.day) (there_and_back l.year l.month l.day z (none_answered Err (date_cases l.year l.month l.day) (Ok z) h))).0 in
+    in_both_lem (λ (x y : List ℕ). x ≡ y) refusal_text refusal_text (case RunCount (bad_count l.count) ∷ []) _ _ (λ k. refl)
     (λ p. let b = between l.count 1 most_records p.0 in rw (o, le-ltb room (record_length * l.count) (omega arith)) refl)))
 
 -- a digit's byte
@@ -85,9 +84,9 @@ pub answer_most : (s : List ℕ) → length (answer_text s) ≤ 2880
 unfolding bad_text
 answer_most s = by (line_of s) refl
   where
-    by : (a : LineAnswer) → line_of s ≡ a → length (answer_text s) ≤ 2880
-    by BadLine e = rw (← bad s e) (omega arith)
-    by (Parsed l) e =
+    by : (a : (Option Line)) → line_of s ≡ a → length (answer_text s) ≤ 2880
+    by None e = rw (← bad s e) (omega arith)
+    by (Some l) e =
         rw (line_answer s l e)
         (in_each refusal_text (λ (x : List ℕ). length x ≤ 2880) (short_cases l) (line_run l) refusal_short
         (λ h.
@@ -101,7 +100,7 @@ a_day = ascii "2007 12 31 96 900\n"
 abbrev its_line : Line
 its_line = record { year = 2007; month = 12; day = 31; count = 96; step = 900 }
 
-day_parsed : line_of a_day ≡ Parsed its_line
+day_parsed : line_of a_day ≡ Some its_line
 unfolding line_of read_number digits decimal_from
 day_parsed = refl
 
@@ -133,9 +132,9 @@ newline_ends s t u = alike (s ++ newline ∷ t) (s ++ newline ∷ u) (after_newl
 pub other_bad : (s : List ℕ) → ((l : Line) → IsLine s l → ⊥) → answer_text s ≡ bad_text
 other_bad s h = by (line_of s) refl
   where
-    by : (a : LineAnswer) → line_of s ≡ a → answer_text s ≡ bad_text
-    by BadLine e = sym (bad s e)
-    by (Parsed l) e = absurd (h l ((parsed_exactly s l).0 e))
+    by : (a : (Option Line)) → line_of s ≡ a → answer_text s ≡ bad_text
+    by None e = sym (bad s e)
+    by (Some l) e = absurd (h l ((parsed_exactly s l).0 e))
 
 -- PROMISE. Input without a newline is a bad line.
 pub no_newline_bad : (s : List ℕ) → ((i : ℕ) → get_or s i 0 ≡ newline → ⊥) → answer_text s ≡ bad_text

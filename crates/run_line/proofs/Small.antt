@@ -9,11 +9,11 @@ use native.Mathlib.Omega.{arith}
 use lib.Dec.{lit<}
 use lib.ListN.{length}
 use Rattle.line.specs.declared.Line.{Line}
-use Rattle.line.specs.declared.LineAnswer.TheVariants.{Parsed}
 use Rattle.line.specs.Lines.{is_digit, digits, decimal_from, line_of}
 use Rattle.line.specs.Grammar.{Writes, IsLine}
 use Rattle.line.proofs.Scanning.{IsDigit, is_digit_lem, digits_more, digits_none, one_more}
 use Rattle.line.proofs.Grammar.{parsed_exactly}
+use Rattle.std.specs.Prelude.{Some}
 
 -- digits after those of a number below 10^c
 decimal_small : (s : List ℕ) (c v : ℕ) → v < 10 ^ c → decimal_from v (digits s) < 10 ^ (c + length (digits s))
@@ -36,5 +36,5 @@ written_small ds v w =
     lt_of_lt_of_le h (pow-le-pow_right {n = 10} (omega arith) w.few)
 
 -- the step of a line
-pub step_small : (s : List ℕ) (l : Line) → line_of s ≡ Parsed l → l.step < 10 ^ 10
+pub step_small : (s : List ℕ) (l : Line) → line_of s ≡ Some l → l.step < 10 ^ 10
 step_small s l e = let i : IsLine s l = (parsed_exactly s l).0 e in written_small i.step l.step i.is_step

@@ -9,13 +9,14 @@ use Rattle.calendar.specs.Limits.{second_micros}
 use Rattle.line.specs.declared.Line.{Line}
 use Rattle.run.specs.Run.{bad_count, bad_step, run_bytes}
 use Rattle.run_line.specs.Answer.{line_day}
+use Rattle.instants.specs.declared.refusal.Refusal.TheVariants.{Day, RunCount, RunStep}
 
 -- the refusals that the run of a line can have: 0 h is never refused, and the program's buffer has room for every count
 abbrev pub short_run_cases : Line → List Case
 short_run_cases l =
-    case 17 (bad_count l.count)
-    ∷ case 18 (bad_step (l.step * second_micros))
-    ∷ case 8 (lt_z last_day (later_day (line_day l) 0 ((l.count - 1) * (l.step * second_micros))))
+    case RunCount (bad_count l.count)
+    ∷ case RunStep (bad_step (l.step * second_micros))
+    ∷ case Day (lt_z last_day (later_day (line_day l) 0 ((l.count - 1) * (l.step * second_micros))))
     ∷ []
 
 -- the refusals that a line can have

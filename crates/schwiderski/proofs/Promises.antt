@@ -16,13 +16,13 @@ use Rattle.binary64.specs.Words.{whole, decimal64}
 use Rattle.binary64.specs.Claims.{Finite, InRange}
 use Rattle.binary64.proofs.Range.{IsPeriod, reduced_in_range}
 use Rattle.schwiderski.specs.declared.Angles.{Angles}
-use Rattle.schwiderski.specs.declared.AnglesAnswer.{AnglesAnswer}
-use Rattle.schwiderski.specs.declared.AnglesAnswer.TheVariants.{AtAngles, NoAngles}
 use Rattle.schwiderski.specs.Formula.{two_pi, leap_days, day_count, longitudes, sums, reduced_each, angles_of}
 use Rattle.schwiderski.specs.Service.{first_year, last_year, in_year, angles_cases, schwiderski_of}
 use Rattle.schwiderski.specs.Claims.{Every, InDays}
 use Rattle.schwiderski.proofs.Days.{finite_day, year_end}
 use Rattle.schwiderski.proofs.Sums.{sums_finite}
+use Rattle.std.specs.Prelude.{Result, Ok, Err, None}
+use Rattle.instants.specs.declared.refusal.Refusal.{Refusal}
 
 -- ---- the range
 -- two-pi is 884279719003555 / 2^47
@@ -94,10 +94,10 @@ in_year_lem y x d = let t = tests (leap_year y) x d in and_i (le (whole (pos 1))
 
 -- ---- which years and days are answered, and by what
 -- PROMISE. An answer that is not a refusal is of a year from 1974 to 2100 and of a day of it, and is the formula with the year minus 1900.
-pub answered_accepted : (y : ℕ) (x : Float) (a : Angles) → schwiderski_of y x ≡ AtAngles a → (1974 ≤ y) × (y ≤ 2100) × InDays (year_length y) x × (a ≡ angles_of (y - 1900) x)
+pub answered_accepted : (y : ℕ) (x : Float) (a : Angles) → schwiderski_of y x ≡ Ok a → (1974 ≤ y) × (y ≤ 2100) × InDays (year_length y) x × (a ≡ angles_of (y - 1900) x)
 unfolding schwiderski_of
 answered_accepted y x a =
-    in_each NoAngles (λ (z : AnglesAnswer). z ≡ AtAngles a → (1974 ≤ y) × (y ≤ 2100) × InDays (year_length y) x × (a ≡ angles_of (y - 1900) x)) (angles_cases y x) (AtAngles (angles_of (y - 1900) x))
+    in_each Err (λ (z : (Result Angles Refusal)). z ≡ Ok a → (1974 ≤ y) × (y ≤ 2100) × InDays (year_length y) x × (a ≡ angles_of (y - 1900) x)) (angles_cases y x) (Ok (angles_of (y - 1900) x))
     (λ n e. impossible (cc)) (λ n e. let b = between y first_year last_year n.0 in (b.0, b.1, in_days y x (is_so (in_year y x) n.1.0), (cc)))
   where
     is_so : (b : Bool) → not b ≡ false → T b
@@ -105,12 +105,12 @@ answered_accepted y x a =
     is_so false e = impossible (cc)
 
 -- PROMISE. Every year from 1974 to 2100 and day of it is answered, by the formula with the year minus 1900.
-pub accepted_answered : (y : ℕ) (x : Float) → 1974 ≤ y → y ≤ 2100 → InDays (year_length y) x → schwiderski_of y x ≡ AtAngles (angles_of (y - 1900) x)
+pub accepted_answered : (y : ℕ) (x : Float) → 1974 ≤ y → y ≤ 2100 → InDays (year_length y) x → schwiderski_of y x ≡ Ok (angles_of (y - 1900) x)
 unfolding schwiderski_of
-accepted_answered y x h k d = none_answered NoAngles (angles_cases y x) _ (rw (le-ltb y 1974 h, le-ltb 2100 y k) refl, (rw (is_true (in_year y x) (in_year_lem y x d)) refl, tt))
+accepted_answered y x h k d = none_answered Err (angles_cases y x) _ (rw (le-ltb y 1974 h, le-ltb 2100 y k) refl, (rw (is_true (in_year y x) (in_year_lem y x d)) refl, tt))
 
 -- ---- what holds of every answer that is no refusal
-module _ (y : ℕ) (x : Float) (a : Angles) (e : schwiderski_of y x ≡ AtAngles a) where
+module _ (y : ℕ) (x : Float) (a : Angles) (e : schwiderski_of y x ≡ Ok a) where
   -- PROMISE. Each of the eleven angles is finite, of the sign +, and below two-pi.
   pub angles_in_range : Every (InRange two_pi) a
   angles_in_range = subst (Every (InRange two_pi)) (sym (answered_accepted y x a e).3) (formula_in_range (y - 1900) x)

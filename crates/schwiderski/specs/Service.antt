@@ -1,13 +1,13 @@
 -- The rules of docs/RULES.md for the eleven angles at a year and a day of the year, which is 1 at 0 h of 1 January.
-use Rattle.std.specs.Prelude.{ℕ, ◌+◌, ◌-◌, Bool, not, ◌&&◌, ◌||◌, List, [], ◌∷◌, pos, nat_lt, Float}
+use Rattle.std.specs.Prelude.{ℕ, ◌+◌, ◌-◌, Bool, not, ◌&&◌, ◌||◌, List, [], ◌∷◌, pos, nat_lt, Float, Result, Ok, Err}
 use Rattle.std.specs.Float.Ieee as Ieee
-use Rattle.instants.specs.Refusals.{Case, case, refused_or}
+use Rattle.instants.specs.Refusals.{Case, case, refused_or, refusal_of}
 use Rattle.calendar.specs.Dates.{year_length}
 use Rattle.binary64.specs.Words.{whole, zero64}
 use Rattle.schwiderski.specs.Formula.{angles_of}
 use Rattle.schwiderski.specs.declared.Angles.{Angles}
-use Rattle.schwiderski.specs.declared.AnglesAnswer.{AnglesAnswer}
-use Rattle.schwiderski.specs.declared.AnglesAnswer.TheVariants.{AtAngles, NoAngles}
+use Rattle.instants.specs.declared.refusal.Refusal.{Refusal}
+use Rattle.instants.specs.declared.refusal.Refusal.TheVariants.{Year, DayOfYear}
 
 -- the years, and the year from which the formula counts
 abbrev pub first_year : ℕ
@@ -26,29 +26,28 @@ in_year year day = Ieee.le (whole (pos 1)) day && Ieee.lt day (whole (pos (year_
 -- the refusals of a year and a day of the year
 abbrev pub angles_cases : (year : ℕ) (day : Float) → List Case
 angles_cases year day =
-    case 1 (nat_lt year first_year || nat_lt last_year year)
-    ∷ case 26 (not (in_year year day))
+    case Year (nat_lt year first_year || nat_lt last_year year)
+    ∷ case DayOfYear (not (in_year year day))
     ∷ []
 
 -- the eleven angles, or the refusal
-unfoldable pub schwiderski_of : (year : ℕ) (day : Float) → AnglesAnswer
-schwiderski_of year day = refused_or NoAngles (angles_cases year day) (AtAngles (angles_of (year - formula_year) day))
+unfoldable pub schwiderski_of : (year : ℕ) (day : Float) → Result Angles Refusal
+schwiderski_of year day = refused_or Err (angles_cases year day) (Ok (angles_of (year - formula_year) day))
 
 -- the eleven numbers in their order: M2, S2, N2, K2, K1, O1, P1, Q1, Mf, Mm, Ssa
 abbrev pub in_order : Angles → List Float
 in_order a = a.m2 ∷ a.s2 ∷ a.n2 ∷ a.k2 ∷ a.k1 ∷ a.o1 ∷ a.p1 ∷ a.q1 ∷ a.mf ∷ a.mm ∷ a.ssa ∷ []
 
 -- those of an answer, or z where it is a refusal: what the call of the whole answer leaves where z was
-abbrev pub angles_or : List Float → AnglesAnswer → List Float
-angles_or z (AtAngles a) = in_order a
-angles_or z (NoAngles n) = z
+abbrev pub angles_or : List Float → Result Angles Refusal → List Float
+angles_or z (Ok a) = in_order a
+angles_or z (Err n) = z
 
 -- what the call of one number gives, `which` of the eleven: +0 beside a refusal
-abbrev pub angle_of : (Angles → Float) → AnglesAnswer → Float
-angle_of which (AtAngles a) = which a
-angle_of which (NoAngles n) = zero64
+abbrev pub angle_of : (Angles → Float) → Result Angles Refusal → Float
+angle_of which (Ok a) = which a
+angle_of which (Err n) = zero64
 
 -- the refusal number, 0 for none
-abbrev pub angles_refusal_of : AnglesAnswer → ℕ
-angles_refusal_of (AtAngles a) = 0
-angles_refusal_of (NoAngles n) = n
+abbrev pub angles_refusal_of : Result Angles Refusal → ℕ
+angles_refusal_of = refusal_of

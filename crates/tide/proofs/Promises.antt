@@ -18,16 +18,12 @@ use Rattle.instants.specs.Limits.{day_micros}
 use Rattle.instants.specs.Refusals.{refused_or}
 use Rattle.instants.proofs.Impossible.{impossible}
 use Rattle.instants.proofs.FirstRefusal.{in_each}
-use Rattle.calendar.specs.declared.InstantAnswer.{InstantAnswer}
-use Rattle.calendar.specs.declared.InstantAnswer.TheVariants.{AtInstant, NoInstant}
 use Rattle.utc.specs.Readings.{reading_index, reading_micros, reading_cases, AcceptedReading}
 use Rattle.utc.specs.Conversions.{tt_at}
 use Rattle.utc.specs.PhaseInstants.{PhaseInstant}
 use Rattle.utc.specs.declared.Reading.{Reading}
 use Rattle.utc.proofs.PhaseInstants.{at_both, in_cases, tt_of_phase, phase_instant_of, tt_is, utc_less, sixty_past_the_day}
 use Rattle.tide.specs.declared.Doodson.{Doodson}
-use Rattle.tide.specs.declared.TideAnswer.{TideAnswer}
-use Rattle.tide.specs.declared.TideAnswer.TheVariants.{Tide, NoTide}
 use Rattle.binary64.specs.Words.{◌⊘◌, whole, zero64}
 use Rattle.tide.specs.Tidal.{day_fraction, centuries, arguments_of, arguments_at, sum_of_products, turn64, constituent_of, all_in_range, range_cases, answer_of, tide_of, frequency_of, phase_of, doodson}
 use Rattle.binary64.specs.Reduction.{raised, settled, reduced}
@@ -35,35 +31,39 @@ use Rattle.binary64.specs.Claims.{Finite, InRange}
 use Rattle.binary64.proofs.Bounded.{bound_finite}
 use Rattle.binary64.proofs.Range.{IsPeriod, zero_in_range, reduced_in_range}
 use Rattle.tide.proofs.Sums.{bounds_at, sum_bound, zero_sum}
+use Rattle.std.specs.Prelude.{Result, Ok, Err}
+use Rattle.instants.specs.declared.Instant.{Instant}
+use Rattle.tide.specs.declared.Constituent.{Constituent}
+use Rattle.instants.specs.declared.refusal.Refusal.{Refusal}
 
 -- ---- the answer, as an equation
 
 -- for any input: the refusals of the reading, then those of the multipliers, then the expression
 pub in_full : (r : Reading) (k : Doodson) →
     let t = tt_at (reading_index r) (reading_micros r) in
-    tide_of r k ≡ refused_or NoTide (reading_cases r ++ range_cases k) (Tide (constituent_of (arguments_of (day_fraction (reading_micros r)) (centuries t.day (day_fraction t.micros))) k))
+    tide_of r k ≡ refused_or Err (reading_cases r ++ range_cases k) (Ok (constituent_of (arguments_of (day_fraction (reading_micros r)) (centuries t.day (day_fraction t.micros))) k))
 unfolding tide_of answer_of arguments_at
-in_full r k = in_cases NoTide (λ p. answer_of (arguments_at p) k) r _ (λ p e. rw (tt_is p, e) refl)
+in_full r k = in_cases Err (λ p. answer_of (arguments_at p) k) r _ (λ p e. rw (tt_is p, e) refl)
 
 -- PROMISE. At an instant for phases, with multipliers in range, the answer is the expression: 360 f with the fraction of the UTC part, and all else with the
 -- centuries of the TT part.
 pub at_instant : (p : PhaseInstant) (k : Doodson) → T (all_in_range k)
-    → tide_of p.utc k ≡ Tide (constituent_of (arguments_of (day_fraction (reading_micros p.utc)) (centuries p.tt.day (day_fraction p.tt.micros))) k)
+    → tide_of p.utc k ≡ Ok (constituent_of (arguments_of (day_fraction (reading_micros p.utc)) (centuries p.tt.day (day_fraction p.tt.micros))) k)
 unfolding tide_of answer_of arguments_at
 at_instant p k h =
-    at_both (λ (x : TideAnswer) (y : InstantAnswer). y ≡ AtInstant p.tt → x ≡ Tide (constituent_of (arguments_at p) k)) NoTide NoInstant (λ q. answer_of (arguments_at q) k)
-    (λ q. AtInstant q.tt) p.utc (λ n e. impossible (cc)) (λ q u e. let t : q.tt ≡ p.tt = cc in rw (is_true (all_in_range k) h, u, t) refl) (tt_of_phase p.utc ∙ p.together)
+    at_both (λ (x : (Result Constituent Refusal)) (y : (Result Instant Refusal)). y ≡ Ok p.tt → x ≡ Ok (constituent_of (arguments_at p) k)) Err Err (λ q. answer_of (arguments_at q) k)
+    (λ q. Ok q.tt) p.utc (λ n e. impossible (cc)) (λ q u e. let t : q.tt ≡ p.tt = cc in rw (is_true (all_in_range k) h, u, t) refl) (tt_of_phase p.utc ∙ p.together)
 
 -- ---- what holds of every answer
 
 -- it holds at every refusal, and of the numbers at every instant for phases with multipliers in range
-module _ (P : TideAnswer → Type 0) (refused : (n : ℕ) → P (NoTide n)) (k : Doodson) where
-  of_answers : ((p : PhaseInstant) → T (all_in_range k) → P (Tide (constituent_of (arguments_at p) k))) → (r : Reading) → P (tide_of r k)
+module _ (P : Result Constituent Refusal → Type 0) (refused : (n : ℕ) → P (Err n)) (k : Doodson) where
+  of_answers : ((p : PhaseInstant) → T (all_in_range k) → P (Ok (constituent_of (arguments_at p) k))) → (r : Reading) → P (tide_of r k)
   unfolding tide_of answer_of
   of_answers h r =
-      at_both (λ (x y : TideAnswer). P x) NoTide NoTide answer answer r refused (λ p _. in_each NoTide P (range_cases k) _ refused (λ n. h p (right (all_in_range k) n.0)))
+      at_both (λ (x y : (Result Constituent Refusal)). P x) Err Err answer answer r refused (λ p _. in_each Err P (range_cases k) _ refused (λ n. h p (right (all_in_range k) n.0)))
     where
-      answer : PhaseInstant → TideAnswer
+      answer : PhaseInstant → Result Constituent Refusal
       answer p = answer_of (arguments_at p) k
 
       right : (b : Bool) → not b ≡ false → T b
@@ -78,14 +78,14 @@ turn_is_period = (refl, lit< tt, refl)
 pub phase_in_turn : (r : Reading) (k : Doodson) → InRange turn64 (phase_of (tide_of r k))
 unfolding constituent_of
 phase_in_turn r k =
-    of_answers (λ (x : TideAnswer). InRange turn64 (phase_of x)) (λ n. zero_in_range turn64 turn_is_period) k
+    of_answers (λ (x : (Result Constituent Refusal)). InRange turn64 (phase_of x)) (λ n. zero_in_range turn64 turn_is_period) k
     (λ p _. let a = arguments_at p in reduced_in_range turn64 turn_is_period (sum_of_products k a.d1 a.d2 a.d3 a.d4 a.d5 a.d6)) r
 
 -- PROMISE. For every input the frequency is finite.
 pub frequency_finite : (r : Reading) (k : Doodson) → Finite (frequency_of (tide_of r k))
 unfolding constituent_of
 frequency_finite r k =
-    of_answers (λ (x : TideAnswer). Finite (frequency_of x)) (λ n. tt) k
+    of_answers (λ (x : (Result Constituent Refusal)). Finite (frequency_of x)) (λ n. tt) k
     (λ p h. let b = bounds_at p in bound_finite (sum_bound k h b.dd1 b.dd2 b.dd3 b.dd4 b.dd5 b.dd6)) r
 
 -- ---- six zeros
@@ -95,7 +95,7 @@ zero_reduced = refl
 
 -- PROMISE. At every accepted reading six zero multipliers give +0 and +0.
 pub zeros_give_zero : (r : Reading) → AcceptedReading r
-    → tide_of r (doodson (pos 0) (pos 0) (pos 0) (pos 0) (pos 0) (pos 0)) ≡ Tide (record { frequency = zero64; phase = zero64 })
+    → tide_of r (doodson (pos 0) (pos 0) (pos 0) (pos 0) (pos 0) (pos 0)) ≡ Ok (record { frequency = zero64; phase = zero64 })
 unfolding all_in_range constituent_of arguments_at
 zeros_give_zero r h =
     let p = phase_instant_of r h in

@@ -1,9 +1,9 @@
 -- The rules of docs/RULES.md for the frequency and phase of a tidal constituent, in their order.
 -- Derived from the IERS routine TDFRPH; not IERS Conventions software (NOTICE, docs/DIFFERENCES.md).
-use Rattle.std.specs.Prelude.{ℕ, Bool, not, ◌&&◌, List, [], ◌∷◌, ℤ, pos, neg_ℤ, Float}
+use Rattle.std.specs.Prelude.{ℕ, Bool, not, ◌&&◌, List, [], ◌∷◌, ℤ, pos, neg_ℤ, Float, Result, Ok, Err}
 use Rattle.std.specs.Int.Signed.{le_z}
 use Rattle.std.specs.Float.Ieee.{neg}
-use Rattle.instants.specs.Refusals.{Case, case, refused_or}
+use Rattle.instants.specs.Refusals.{Case, case, refused_or, refusal_of}
 use Rattle.utc.specs.Readings.{reading_micros}
 use Rattle.utc.specs.PhaseInstants.{PhaseInstant, at_phase}
 use Rattle.utc.specs.declared.Reading.{Reading}
@@ -13,8 +13,8 @@ use Rattle.tide.specs.Delaunay.{F1, F2, F3, F4, F5, FD1, FD2, FD3, FD4, FD5}
 use Rattle.tide.specs.declared.Doodson.{Doodson}
 use Rattle.tide.specs.declared.Arguments.{Arguments}
 use Rattle.tide.specs.declared.Constituent.{Constituent}
-use Rattle.tide.specs.declared.TideAnswer.{TideAnswer}
-use Rattle.tide.specs.declared.TideAnswer.TheVariants.{Tide, NoTide}
+use Rattle.instants.specs.declared.refusal.Refusal.{Refusal}
+use Rattle.instants.specs.declared.refusal.Refusal.TheVariants.{Multiplier}
 
 -- f, the fraction of the day after m microseconds: m / 86400000000
 unfoldable pub day_fraction : ℕ → Float
@@ -71,36 +71,35 @@ all_in_range k = ((((in_range k.k1 && in_range k.k2) && in_range k.k3) && in_ran
 
 -- the refusal of six multipliers
 abbrev pub range_cases : Doodson → List Case
-range_cases k = case 11 (not (all_in_range k)) ∷ []
+range_cases k = case Multiplier (not (all_in_range k)) ∷ []
 
 -- from arguments at hand: both numbers, or the refusal of the multipliers
-unfoldable pub answer_of : Arguments → Doodson → TideAnswer
-answer_of a k = refused_or NoTide (range_cases k) (Tide (constituent_of a k))
+unfoldable pub answer_of : Arguments → Doodson → Result Constituent Refusal
+answer_of a k = refused_or Err (range_cases k) (Ok (constituent_of a k))
 
 -- at a reading: its refusal, or that answer at its instant for phases
-unfoldable pub tide_of : Reading → Doodson → TideAnswer
-tide_of r k = at_phase NoTide (λ p. answer_of (arguments_at p) k) r
+unfoldable pub tide_of : Reading → Doodson → Result Constituent Refusal
+tide_of r k = at_phase Err (λ p. answer_of (arguments_at p) k) r
 
 -- the numbers of an answer, or z where it is a refusal: what the call of the whole answer leaves where z was
-abbrev pub frequency_or : Float → TideAnswer → Float
-frequency_or z (Tide x) = x.frequency
-frequency_or z (NoTide n) = z
+abbrev pub frequency_or : Float → Result Constituent Refusal → Float
+frequency_or z (Ok x) = x.frequency
+frequency_or z (Err n) = z
 
-abbrev pub phase_or : Float → TideAnswer → Float
-phase_or z (Tide x) = x.phase
-phase_or z (NoTide n) = z
+abbrev pub phase_or : Float → Result Constituent Refusal → Float
+phase_or z (Ok x) = x.phase
+phase_or z (Err n) = z
 
 -- what the call of one number gives: +0 beside a refusal
-abbrev pub frequency_of : TideAnswer → Float
+abbrev pub frequency_of : Result Constituent Refusal → Float
 frequency_of = frequency_or zero64
 
-abbrev pub phase_of : TideAnswer → Float
+abbrev pub phase_of : Result Constituent Refusal → Float
 phase_of = phase_or zero64
 
 -- the refusal number, 0 for none
-abbrev pub tide_refusal_of : TideAnswer → ℕ
-tide_refusal_of (Tide x) = 0
-tide_refusal_of (NoTide n) = n
+abbrev pub tide_refusal_of : Result Constituent Refusal → ℕ
+tide_refusal_of = refusal_of
 
 -- the six multipliers as the exported calls take them
 abbrev pub doodson : (k1 k2 k3 k4 k5 k6 : ℤ) → Doodson

@@ -18,7 +18,6 @@ use Rattle.calendar.specs.Limits.{second_micros}
 use Rattle.calendar.specs.Dates.{date, date_index, next}
 use Rattle.calendar.specs.Times.{micros_of_time}
 use Rattle.calendar.specs.declared.Date.{Date}
-use Rattle.calendar.specs.declared.InstantAnswer.TheVariants.{AtInstant, NoInstant}
 use Rattle.calendar.proofs.Dates.{Steps, step}
 use Rattle.calendar.proofs.Inverse.{AcceptedDate, date_none, valid, in_range, number_pos}
 use Rattle.utc.specs.Table.{first_step, expiry, tt_minus_utc, has_second60}
@@ -30,6 +29,8 @@ use Rattle.utc.proofs.Steps.{extra}
 use Rattle.utc.proofs.Days.{first_index_lem, expiry_index, next_begins}
 use Rattle.utc.proofs.Readings.{LastSecond, usual, longer, last_second_lem, last_minute, Held}
 use Rattle.utc.proofs.Inverse.{moment_at, instant_at, held_instant, answered_held}
+use Rattle.std.specs.Prelude.{Ok, Err}
+use Rattle.instants.specs.declared.refusal.Refusal.TheVariants.{UtcExpired}
 
 -- ---- the instant a second later
 
@@ -58,14 +59,14 @@ grown n u k v t h e =
 
 -- what is to be shown of the reading q after r
 abbrev Follows : Reading → Reading → Type 0
-Follows r q = (tt_of q ≡ AtInstant (instant_second_later (tt_at (reading_index r) (reading_micros r)))) ⊎ (tt_of q ≡ NoInstant 20)
+Follows r q = (tt_of q ≡ Ok (instant_second_later (tt_at (reading_index r) (reading_micros r)))) ⊎ (tt_of q ≡ Err UtcExpired)
 
 -- where q is accepted, and its moment is a second later
 follows : (r q : Reading) → Held r → Held q → day_begins (reading_index q) + reading_micros q ≡ day_begins (reading_index r) + reading_micros r + second_micros → Follows r q
-follows r q h k e = inl (held_instant q k ∙ ap AtInstant (grown (reading_index r) (reading_micros r) (reading_index q) (reading_micros q) second_micros h.from e))
+follows r q h k e = inl (held_instant q k ∙ ap Ok (grown (reading_index r) (reading_micros r) (reading_index q) (reading_micros q) second_micros h.from e))
 
 -- on the day on which the list expires
-expired : (q : Reading) → AcceptedDate q.year q.month q.day → q.hour ≤ 23 → q.minute ≤ 59 → q.second ≡ 0 → q.microsecond ≤ 999_999 → reading_index q ≡ 155407 → tt_of q ≡ NoInstant 20
+expired : (q : Reading) → AcceptedDate q.year q.month q.day → q.hour ≤ 23 → q.minute ≤ 59 → q.second ≡ 0 → q.microsecond ≤ 999_999 → reading_index q ≡ 155407 → tt_of q ≡ Err UtcExpired
 unfolding tt_of
 expired q on hours minutes seconds microseconds e =
     let d = date_none _ _ _ on in
@@ -166,7 +167,7 @@ module _ (r : Reading) (h : Held r) where
       by_second false e = by_minute (omega (arith, ltb-false r.second last e, h.seconds)) (ltb r.minute 59) refl
 
 -- PROMISE. The reading a second after an accepted one has the instant a second later, or is refused because the list expires there.
-pub next_second_lem : (r : Reading) (t : Instant) → tt_of r ≡ AtInstant t → (tt_of (next_second r) ≡ AtInstant (instant_second_later t)) ⊎ (tt_of (next_second r) ≡ NoInstant 20)
+pub next_second_lem : (r : Reading) (t : Instant) → tt_of r ≡ Ok t → (tt_of (next_second r) ≡ Ok (instant_second_later t)) ⊎ (tt_of (next_second r) ≡ Err UtcExpired)
 next_second_lem r t e =
     let a = answered_held r t e in
-    subst (λ (t : Instant). (tt_of (next_second r) ≡ AtInstant (instant_second_later t)) ⊎ (tt_of (next_second r) ≡ NoInstant 20)) a.1 (held_next r a.0)
+    subst (λ (t : Instant). (tt_of (next_second r) ≡ Ok (instant_second_later t)) ⊎ (tt_of (next_second r) ≡ Err UtcExpired)) a.1 (held_next r a.0)

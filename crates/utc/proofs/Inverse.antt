@@ -17,17 +17,16 @@ use Rattle.instants.proofs.Signs.{first_index, last_index}
 use Rattle.instants.proofs.Accepted.{AcceptedAt, none_accepted}
 use Rattle.calendar.specs.Dates.{date, date_index, date_after}
 use Rattle.calendar.specs.declared.Date.{Date}
-use Rattle.calendar.specs.declared.InstantAnswer.TheVariants.{AtInstant, NoInstant}
 use Rattle.calendar.proofs.Dates.{Found, after, after_index}
 use Rattle.calendar.proofs.Inverse.{valid, in_range, number_inside, number_index}
 use Rattle.utc.specs.Table.{first_step, expiry, tt_minus_utc}
 use Rattle.utc.specs.Readings.{reading, reading_index, reading_micros, reading_cases}
 use Rattle.utc.specs.Conversions.{tt_at, tt_of, day_begins, moment_cases, utc_index, minute_of_day, reading_at, reading_on, utc_of}
 use Rattle.utc.specs.declared.Reading.{Reading}
-use Rattle.utc.specs.declared.ReadingAnswer.TheVariants.{AtReading, NoReading}
 use Rattle.utc.proofs.Steps.{tai_most}
 use Rattle.utc.proofs.Days.{first_index_lem, expiry_index, day_length, next_begins, begins_from, begins_to, begins_later}
 use Rattle.utc.proofs.Readings.{Held, none_held, held_none, held_less, minute_back, Minute, minute_of, second_at}
+use Rattle.std.specs.Prelude.{Ok, Err}
 
 -- ---- the UTC day of a moment
 
@@ -143,7 +142,7 @@ reading_back r h = by (date_after (reading_index r)) (after_index (date r.year r
 
 -- the reading at the TT day i and its microseconds m, where this is u microseconds after the beginning of the UTC day n
 read_at : (i m n u : ℕ) → i ≤ last_index → m < day_micros → moment i m ≡ day_begins n + u → u < day_length n → 135870 ≤ n → n < 155407
-    → utc_of (day_at_index i) m ≡ AtReading (reading_at n u)
+    → utc_of (day_at_index i) m ≡ Ok (reading_at n u)
 unfolding utc_of
 read_at i m n u high h e less from to =
     rw (number_inside i low high, lt-leb day_micros m h, number_index i low, le-ltb (moment i m) (day_begins (date_index first_step.from)) after_first, lt-leb (day_begins (date_index expiry)) (moment i m) before_expiry, same, rest)
@@ -170,32 +169,32 @@ read_at i m n u high h e less from to =
 -- an accepted reading's instant is read as that reading
 held_back : (r : Reading) → Held r →
     let t = tt_at (reading_index r) (reading_micros r) in
-    utc_of t.day t.micros ≡ AtReading r
+    utc_of t.day t.micros ≡ Ok r
 held_back r h =
     let n = reading_index r in
     let u = reading_micros r in
     let l = held_less r h in
     read_at (n + (u + tt_minus_utc n) / day_micros) ((u + tt_minus_utc n) % day_micros) n u (omega (arith, h.to, l.1, tai_most n)) (omega arith) (moment_at n u) l.0 h.from h.to
-    ∙ ap AtReading (reading_back r h)
+    ∙ ap Ok (reading_back r h)
 
 -- a reading that has an instant is accepted, and the instant is that of its time
-pub answered_held : (r : Reading) (t : Instant) → tt_of r ≡ AtInstant t → Held r × (tt_at (reading_index r) (reading_micros r) ≡ t)
+pub answered_held : (r : Reading) (t : Instant) → tt_of r ≡ Ok t → Held r × (tt_at (reading_index r) (reading_micros r) ≡ t)
 unfolding tt_of
 answered_held r t e =
-    let a = answered_none NoInstant (reading_cases r) (AtInstant (tt_at (reading_index r) (reading_micros r))) (AtInstant t) (λ n p. impossible (cc)) e in
-    let g : AtInstant (tt_at (reading_index r) (reading_micros r)) ≡ AtInstant t = a.1 in
+    let a = answered_none Err (reading_cases r) (Ok (tt_at (reading_index r) (reading_micros r))) (Ok t) (λ n p. impossible (cc)) e in
+    let g : Ok (tt_at (reading_index r) (reading_micros r)) ≡ Ok t = a.1 in
     (none_held r a.0, cc)
 
 -- PROMISE. The reading of an accepted reading's instant is that reading.
-pub reading_there_and_back : (r : Reading) (t : Instant) → tt_of r ≡ AtInstant t → utc_of t.day t.micros ≡ AtReading r
+pub reading_there_and_back : (r : Reading) (t : Instant) → tt_of r ≡ Ok t → utc_of t.day t.micros ≡ Ok r
 reading_there_and_back r t e =
     let a = answered_held r t e in
-    subst (λ (t : Instant). utc_of t.day t.micros ≡ AtReading r) a.1 (held_back r a.0)
+    subst (λ (t : Instant). utc_of t.day t.micros ≡ Ok r) a.1 (held_back r a.0)
 
 -- an accepted reading has its instant
-pub held_instant : (r : Reading) → Held r → tt_of r ≡ AtInstant (tt_at (reading_index r) (reading_micros r))
+pub held_instant : (r : Reading) → Held r → tt_of r ≡ Ok (tt_at (reading_index r) (reading_micros r))
 unfolding tt_of
-held_instant r h = none_answered NoInstant (reading_cases r) _ (held_none r h)
+held_instant r h = none_answered Err (reading_cases r) _ (held_none r h)
 
 -- the instant of the time u of the UTC day n, where that is at the microseconds m of the TT day i
 pub instant_at : (i m n u : ℕ) → m < day_micros → moment i m ≡ day_begins n + u → tt_at n u ≡ instant (day_at_index i) m
@@ -206,19 +205,19 @@ instant_at i m n u h e =
     rw (q, p) refl
 
 -- PROMISE. The instant of an answered instant's reading is that instant.
-pub instant_there_and_back : (d : ℤ) (m : ℕ) (r : Reading) → utc_of d m ≡ AtReading r → tt_of r ≡ AtInstant (instant d m)
+pub instant_there_and_back : (d : ℤ) (m : ℕ) (r : Reading) → utc_of d m ≡ Ok r → tt_of r ≡ Ok (instant d m)
 unfolding utc_of day_at_index
 instant_there_and_back d m r e =
     let x = moment_of d m in
-    let a = answered_none NoReading (instant_cases d m ++ moment_cases x) (AtReading (reading_on (day_index d) x)) (AtReading r) (λ n p. impossible (cc)) e in
+    let a = answered_none Err (instant_cases d m ++ moment_cases x) (Ok (reading_on (day_index d) x)) (Ok r) (λ n p. impossible (cc)) e in
     let b = none_both (instant_cases d m) (moment_cases x) a.0 in
     let k : AcceptedAt d m (day_index d) = none_accepted d m b.0 in
     let w = index_within (day_index d) m (omega (arith, k.low)) k.less in
     let n = utc_index (day_index d) x in
     let u = x - day_begins n in
     let h : Held (reading_at n u) = held_at n u (covered_from n x w (ltb-false _ _ b.1.0)) (covered_to n x w (leb-false _ _ b.1.1.0)) (within_less n x w) in
-    let g : AtReading (reading_on (day_index d) x) ≡ AtReading r = a.1 in
+    let g : Ok (reading_on (day_index d) x) ≡ Ok r = a.1 in
     let f : reading_at n u ≡ r = cc in
     let z : x ≡ day_begins n + u = omega (arith, w.begun) in
-    ap tt_of (sym f) ∙ (held_instant (reading_at n u) h ∙ ap AtInstant (ap (λ (k : ℕ). tt_at k (reading_micros (reading_at n u))) (on_date n u)
+    ap tt_of (sym f) ∙ (held_instant (reading_at n u) h ∙ ap Ok (ap (λ (k : ℕ). tt_at k (reading_micros (reading_at n u))) (on_date n u)
     ∙ (ap (tt_at n) (micros_at n u) ∙ (instant_at (day_index d) m n u k.less z ∙ ap (λ (d : ℤ). instant d m) (sym k.is)))))

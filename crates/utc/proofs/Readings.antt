@@ -21,9 +21,9 @@ use Rattle.utc.specs.Conversions.{minute_of_day}
 use Rattle.utc.specs.Inner.{utc_time, reading_acceptance}
 use Rattle.utc.specs.declared.Reading.{Reading}
 use Rattle.utc.specs.declared.UtcTime.{UtcTime}
-use Rattle.utc.specs.declared.UtcAnswer.TheVariants.{AtUtc, NoUtc}
 use Rattle.utc.proofs.Steps.{extra, extra_most}
 use Rattle.utc.proofs.Days.{first_index_lem, expiry_index, day_length}
+use Rattle.std.specs.Prelude.{Ok, Err}
 
 -- ---- the last second of a minute
 
@@ -105,11 +105,11 @@ held_none r h =
     )
 
 -- one that was accepted by its time
-pub accepted_held : (r : Reading) (t : UtcTime) → reading_acceptance r ≡ AtUtc t → Held r × (t ≡ utc_time (reading_index r) (reading_micros r))
+pub accepted_held : (r : Reading) (t : UtcTime) → reading_acceptance r ≡ Ok t → Held r × (t ≡ utc_time (reading_index r) (reading_micros r))
 unfolding reading_acceptance
 accepted_held r t e =
-    let a = answered_none NoUtc (reading_cases r) (AtUtc (utc_time (reading_index r) (reading_micros r))) (AtUtc t) (λ n p. impossible (cc)) e in
-    let g : AtUtc (utc_time (reading_index r) (reading_micros r)) ≡ AtUtc t = a.1 in
+    let a = answered_none Err (reading_cases r) (Ok (utc_time (reading_index r) (reading_micros r))) (Ok t) (λ n p. impossible (cc)) e in
+    let g : Ok (utc_time (reading_index r) (reading_micros r)) ≡ Ok t = a.1 in
     (none_held r a.0, cc)
 
 -- ---- its time of day
@@ -156,7 +156,7 @@ sixty_micros r h past = by (last_second_lem (reading_index r) r.hour r.minute) h
     by (longer p q s) k = omega (arith, p, q, past, k)
 
 -- such a time fits the sums of the code
-pub accepted_small : (r : Reading) (t : UtcTime) → reading_acceptance r ≡ AtUtc t → (t.index < days_covered) × (t.micros < 2 * day_micros)
+pub accepted_small : (r : Reading) (t : UtcTime) → reading_acceptance r ≡ Ok t → (t.index < days_covered) × (t.micros < 2 * day_micros)
 accepted_small r t e =
     let a = accepted_held r t e in
     (omega (arith, a.0.to, ap (λ (t : UtcTime). t.index) a.1), omega (arith, (held_less r a.0).1, ap (λ (t : UtcTime). t.micros) a.1))

@@ -1,19 +1,17 @@
 -- Service (h): a UTC reading as an instant of Terrestrial Time, and back.
-use Rattle.std.specs.Prelude.{ℕ, ◌+◌, ◌-◌, ◌*◌, ◌/◌, ◌%◌, cond, List, [], ◌∷◌, ◌++◌, ltb, leb, ℤ}
-use Rattle.instants.specs.Refusals.{Case, case, refused_or}
+use Rattle.std.specs.Prelude.{ℕ, ◌+◌, ◌-◌, ◌*◌, ◌/◌, ◌%◌, cond, List, [], ◌∷◌, ◌++◌, ltb, leb, ℤ, Result, Ok, Err}
+use Rattle.instants.specs.Refusals.{Case, case, refused_or, refusal_of}
 use Rattle.instants.specs.Limits.{day_micros}
 use Rattle.instants.specs.Instants.{instant, day_index, day_at_index, instant_cases}
 use Rattle.instants.specs.Moments.{moment, moment_of}
 use Rattle.instants.specs.declared.Instant.{Instant}
 use Rattle.calendar.specs.Limits.{second_micros}
 use Rattle.calendar.specs.Dates.{date_index, date_after}
-use Rattle.calendar.specs.declared.InstantAnswer.{InstantAnswer}
-use Rattle.calendar.specs.declared.InstantAnswer.TheVariants.{AtInstant, NoInstant}
 use Rattle.utc.specs.Table.{first_step, expiry, tt_minus_utc}
 use Rattle.utc.specs.Readings.{reading, reading_index, reading_micros, reading_cases}
 use Rattle.utc.specs.declared.Reading.{Reading}
-use Rattle.utc.specs.declared.ReadingAnswer.{ReadingAnswer}
-use Rattle.utc.specs.declared.ReadingAnswer.TheVariants.{AtReading, NoReading}
+use Rattle.instants.specs.declared.refusal.Refusal.{Refusal}
+use Rattle.instants.specs.declared.refusal.Refusal.TheVariants.{UtcEarly, UtcExpired}
 
 -- ---- UTC to TT
 
@@ -26,8 +24,8 @@ abbrev pub tt_at : ℕ → ℕ → Instant
 tt_at n u = instant_after n (u + tt_minus_utc n)
 
 -- a reading's instant, or its refusal
-unfoldable pub tt_of : Reading → InstantAnswer
-tt_of r = refused_or NoInstant (reading_cases r) (AtInstant (tt_at (reading_index r) (reading_micros r)))
+unfoldable pub tt_of : Reading → Result Instant Refusal
+tt_of r = refused_or Err (reading_cases r) (Ok (tt_at (reading_index r) (reading_micros r)))
 
 -- ---- TT to UTC
 
@@ -37,7 +35,7 @@ day_begins n = moment n (tt_minus_utc n)
 
 -- the refusals of a moment that the list does not cover
 abbrev pub moment_cases : ℕ → List Case
-moment_cases x = case 19 (ltb x (day_begins (date_index first_step.from))) ∷ case 20 (leb (day_begins (date_index expiry)) x) ∷ []
+moment_cases x = case UtcEarly (ltb x (day_begins (date_index first_step.from))) ∷ case UtcExpired (leb (day_begins (date_index expiry)) x) ∷ []
 
 -- the UTC day at the moment x of the TT day i: the day i if it has begun, else the day before
 abbrev pub utc_index : ℕ → ℕ → ℕ
@@ -58,62 +56,61 @@ abbrev pub reading_on : ℕ → ℕ → Reading
 reading_on i x = reading_at (utc_index i x) (x - day_begins (utc_index i x))
 
 -- an instant's reading, or its refusal
-unfoldable pub utc_of : ℤ → ℕ → ReadingAnswer
-utc_of d m = refused_or NoReading (instant_cases d m ++ moment_cases (moment_of d m)) (AtReading (reading_on (day_index d) (moment_of d m)))
+unfoldable pub utc_of : ℤ → ℕ → Result Reading Refusal
+utc_of d m = refused_or Err (instant_cases d m ++ moment_cases (moment_of d m)) (Ok (reading_on (day_index d) (moment_of d m)))
 
 -- ---- the numbers of an answer, or z where it is a refusal: what the call of the whole answer leaves where z was
 
-abbrev pub reading_year_or : ℕ → ReadingAnswer → ℕ
-reading_year_or z (AtReading r) = r.year
-reading_year_or z (NoReading n) = z
+abbrev pub reading_year_or : ℕ → Result Reading Refusal → ℕ
+reading_year_or z (Ok r) = r.year
+reading_year_or z (Err n) = z
 
-abbrev pub reading_month_or : ℕ → ReadingAnswer → ℕ
-reading_month_or z (AtReading r) = r.month
-reading_month_or z (NoReading n) = z
+abbrev pub reading_month_or : ℕ → Result Reading Refusal → ℕ
+reading_month_or z (Ok r) = r.month
+reading_month_or z (Err n) = z
 
-abbrev pub reading_day_or : ℕ → ReadingAnswer → ℕ
-reading_day_or z (AtReading r) = r.day
-reading_day_or z (NoReading n) = z
+abbrev pub reading_day_or : ℕ → Result Reading Refusal → ℕ
+reading_day_or z (Ok r) = r.day
+reading_day_or z (Err n) = z
 
-abbrev pub reading_hour_or : ℕ → ReadingAnswer → ℕ
-reading_hour_or z (AtReading r) = r.hour
-reading_hour_or z (NoReading n) = z
+abbrev pub reading_hour_or : ℕ → Result Reading Refusal → ℕ
+reading_hour_or z (Ok r) = r.hour
+reading_hour_or z (Err n) = z
 
-abbrev pub reading_minute_or : ℕ → ReadingAnswer → ℕ
-reading_minute_or z (AtReading r) = r.minute
-reading_minute_or z (NoReading n) = z
+abbrev pub reading_minute_or : ℕ → Result Reading Refusal → ℕ
+reading_minute_or z (Ok r) = r.minute
+reading_minute_or z (Err n) = z
 
-abbrev pub reading_second_or : ℕ → ReadingAnswer → ℕ
-reading_second_or z (AtReading r) = r.second
-reading_second_or z (NoReading n) = z
+abbrev pub reading_second_or : ℕ → Result Reading Refusal → ℕ
+reading_second_or z (Ok r) = r.second
+reading_second_or z (Err n) = z
 
-abbrev pub reading_microsecond_or : ℕ → ReadingAnswer → ℕ
-reading_microsecond_or z (AtReading r) = r.microsecond
-reading_microsecond_or z (NoReading n) = z
+abbrev pub reading_microsecond_or : ℕ → Result Reading Refusal → ℕ
+reading_microsecond_or z (Ok r) = r.microsecond
+reading_microsecond_or z (Err n) = z
 
 -- what the call of one number gives: 0 beside a refusal
-abbrev pub reading_year_of : ReadingAnswer → ℕ
+abbrev pub reading_year_of : Result Reading Refusal → ℕ
 reading_year_of = reading_year_or 0
 
-abbrev pub reading_month_of : ReadingAnswer → ℕ
+abbrev pub reading_month_of : Result Reading Refusal → ℕ
 reading_month_of = reading_month_or 0
 
-abbrev pub reading_day_of : ReadingAnswer → ℕ
+abbrev pub reading_day_of : Result Reading Refusal → ℕ
 reading_day_of = reading_day_or 0
 
-abbrev pub reading_hour_of : ReadingAnswer → ℕ
+abbrev pub reading_hour_of : Result Reading Refusal → ℕ
 reading_hour_of = reading_hour_or 0
 
-abbrev pub reading_minute_of : ReadingAnswer → ℕ
+abbrev pub reading_minute_of : Result Reading Refusal → ℕ
 reading_minute_of = reading_minute_or 0
 
-abbrev pub reading_second_of : ReadingAnswer → ℕ
+abbrev pub reading_second_of : Result Reading Refusal → ℕ
 reading_second_of = reading_second_or 0
 
-abbrev pub reading_microsecond_of : ReadingAnswer → ℕ
+abbrev pub reading_microsecond_of : Result Reading Refusal → ℕ
 reading_microsecond_of = reading_microsecond_or 0
 
 -- the refusal number, 0 for none
-abbrev pub reading_refusal_of : ReadingAnswer → ℕ
-reading_refusal_of (AtReading r) = 0
-reading_refusal_of (NoReading n) = n
+abbrev pub reading_refusal_of : Result Reading Refusal → ℕ
+reading_refusal_of = refusal_of

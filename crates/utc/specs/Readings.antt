@@ -5,6 +5,7 @@ use Rattle.calendar.specs.Dates.{date, date_index, date_cases}
 use Rattle.calendar.specs.Times.{micros_of_time, time_cases}
 use Rattle.utc.specs.Table.{first_step, expiry, has_second60}
 use Rattle.utc.specs.declared.Reading.{Reading}
+use Rattle.instants.specs.declared.refusal.Refusal.TheVariants.{UtcEarly, UtcExpired}
 
 -- the reading of seven numbers
 abbrev pub reading : (year month day hour minute second microsecond : ℕ) → Reading
@@ -25,7 +26,7 @@ last_second n hour minute = cond ((eqb hour 23 && eqb minute 59) && has_second60
 
 -- the refusals of a day that the list does not cover
 abbrev pub cover_cases : ℕ → List Case
-cover_cases n = case 19 (ltb n (date_index first_step.from)) ∷ case 20 (leb (date_index expiry) n) ∷ []
+cover_cases n = case UtcEarly (ltb n (date_index first_step.from)) ∷ case UtcExpired (leb (date_index expiry) n) ∷ []
 
 -- the refusals of a reading
 abbrev pub reading_cases : Reading → List Case

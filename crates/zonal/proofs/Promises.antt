@@ -11,15 +11,15 @@ use Rattle.instants.proofs.FirstRefusal.{answered_none}
 use Rattle.instants.proofs.Accepted.{AcceptedAt, accepted_at, accepted_none, answered_too}
 use Rattle.instants.specs.Moments.{since_j2000}
 use Rattle.zonal.specs.declared.Corrections.{Corrections}
-use Rattle.zonal.specs.declared.ZonalAnswer.TheVariants.{Zonal, NoZonal}
 use Rattle.zonal.specs.Ours.{corrections_at, zonal_of}
 use Rattle.zonal.specs.Within.{promised, Within, Answered}
 use Rattle.zonal.proofs.Distance.{proved, corrections_near, within_wide}
+use Rattle.std.specs.Prelude.{Ok, Err}
 
 -- an accepted instant has its numbers
-pub accepted_given : (d : ℤ) (m : ℕ) → IsAccepted d m → zonal_of d m ≡ Zonal (corrections_at (day_index d) m)
+pub accepted_given : (d : ℤ) (m : ℕ) → IsAccepted d m → zonal_of d m ≡ Ok (corrections_at (day_index d) m)
 unfolding zonal_of
-accepted_given d m a = sym (answered_too NoZonal _ d m a)
+accepted_given d m a = sym (answered_too Err _ d m a)
 
 -- the computed test: the distances that are proved are within those that are promised
 promise_room : (proved.ut1 ≤ promised.ut1) × (proved.lod ≤ promised.lod) × (proved.rate ≤ promised.rate)
@@ -41,9 +41,9 @@ accepted_answered d m a = record {
 }
 
 -- only an accepted instant is answered
-pub given_accepted : (d : ℤ) (m : ℕ) (c : Corrections) → zonal_of d m ≡ Zonal c → IsAccepted d m × (c ≡ corrections_at (day_index d) m)
+pub given_accepted : (d : ℤ) (m : ℕ) (c : Corrections) → zonal_of d m ≡ Ok c → IsAccepted d m × (c ≡ corrections_at (day_index d) m)
 unfolding zonal_of
 given_accepted d m c e =
-    let r = answered_none NoZonal (instant_cases d m) (Zonal (corrections_at (day_index d) m)) (Zonal c) (λ n p. impossible (cc)) e in
-    let g : Zonal (corrections_at (day_index d) m) ≡ Zonal c = r.1 in
+    let r = answered_none Err (instant_cases d m) (Ok (corrections_at (day_index d) m)) (Ok c) (λ n p. impossible (cc)) e in
+    let g : Ok (corrections_at (day_index d) m) ≡ Ok c = r.1 in
     (accepted_none d m r.0, cc)

@@ -1,17 +1,16 @@
 -- Our corrections: three whole numbers, and the answer for every day number and every number of microseconds.
 -- Derived from the IERS routine RG_ZONT2; not IERS Conventions software (NOTICE, docs/DIFFERENCES.md).
-use Rattle.std.specs.Prelude.{ℕ, ◌^◌, ℤ, ◌+ℤ◌, ◌*ℤ◌}
+use Rattle.std.specs.Prelude.{ℕ, ◌^◌, ℤ, ◌+ℤ◌, ◌*ℤ◌, Result, Ok, Err}
 use Rattle.std.specs.Int.Signed.{shr_z}
 use Rattle.algebra.specs.Integers.{+◌}
-use Rattle.instants.specs.Refusals.{refused_or}
+use Rattle.instants.specs.Refusals.{refused_or, refusal_of}
 use Rattle.instants.specs.Instants.{day_index, instant_cases}
 use Rattle.instants.specs.Moments.{moment}
 use Rattle.arguments.specs.Ours.{our_row_angle}
 use Rattle.sine.specs.Ours.{our_sine, our_cosine}
 use Rattle.zonal.specs.declared.Corrections.{Corrections}
-use Rattle.zonal.specs.declared.ZonalAnswer.{ZonalAnswer}
-use Rattle.zonal.specs.declared.ZonalAnswer.TheVariants.{Zonal, NoZonal}
 use Rattle.zonal.specs.Exact.{ut1_sum, lod_sum, rate_sum}
+use Rattle.instants.specs.declared.refusal.Refusal.{Refusal}
 
 -- our sine and cosine of the row r at the moment x, in units of 2^-31
 abbrev pub row_sine : ℕ → ℕ → ℤ
@@ -45,33 +44,32 @@ unfoldable pub corrections_at : ℕ → ℕ → Corrections
 corrections_at i m = corrections (our_ut1 (moment i m)) (our_lod (moment i m)) (our_rate (moment i m))
 
 -- the answer: the three numbers of an accepted instant, or its refusal
-unfoldable pub zonal_of : ℤ → ℕ → ZonalAnswer
-zonal_of d m = refused_or NoZonal (instant_cases d m) (Zonal (corrections_at (day_index d) m))
+unfoldable pub zonal_of : ℤ → ℕ → Result Corrections Refusal
+zonal_of d m = refused_or Err (instant_cases d m) (Ok (corrections_at (day_index d) m))
 
 -- the numbers of an answer, or z where it is a refusal: what the call of the whole answer leaves where z was
-abbrev pub ut1_or : ℤ → ZonalAnswer → ℤ
-ut1_or z (Zonal c) = c.ut1
-ut1_or z (NoZonal n) = z
+abbrev pub ut1_or : ℤ → Result Corrections Refusal → ℤ
+ut1_or z (Ok c) = c.ut1
+ut1_or z (Err n) = z
 
-abbrev pub lod_or : ℤ → ZonalAnswer → ℤ
-lod_or z (Zonal c) = c.lod
-lod_or z (NoZonal n) = z
+abbrev pub lod_or : ℤ → Result Corrections Refusal → ℤ
+lod_or z (Ok c) = c.lod
+lod_or z (Err n) = z
 
-abbrev pub rate_or : ℤ → ZonalAnswer → ℤ
-rate_or z (Zonal c) = c.rate
-rate_or z (NoZonal n) = z
+abbrev pub rate_or : ℤ → Result Corrections Refusal → ℤ
+rate_or z (Ok c) = c.rate
+rate_or z (Err n) = z
 
 -- what the call of one number gives: 0 beside a refusal
-abbrev pub ut1_of : ZonalAnswer → ℤ
+abbrev pub ut1_of : Result Corrections Refusal → ℤ
 ut1_of = ut1_or (+ 0)
 
-abbrev pub lod_of : ZonalAnswer → ℤ
+abbrev pub lod_of : Result Corrections Refusal → ℤ
 lod_of = lod_or (+ 0)
 
-abbrev pub rate_of : ZonalAnswer → ℤ
+abbrev pub rate_of : Result Corrections Refusal → ℤ
 rate_of = rate_or (+ 0)
 
 -- the refusal number, 0 for none
-abbrev pub zonal_refusal_of : ZonalAnswer → ℕ
-zonal_refusal_of (Zonal c) = 0
-zonal_refusal_of (NoZonal n) = n
+abbrev pub zonal_refusal_of : Result Corrections Refusal → ℕ
+zonal_refusal_of = refusal_of

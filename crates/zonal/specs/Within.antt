@@ -1,10 +1,9 @@
 -- How near the exact sums an answer is.
-use Rattle.std.specs.Prelude.{◌≡◌, ℕ, ◌*◌, ◌<◌, ℤ, ◌*ℤ◌}
+use Rattle.std.specs.Prelude.{◌≡◌, ℕ, ◌*◌, ◌<◌, ℤ, ◌*ℤ◌, Ok}
 use Rattle.algebra.specs.Integers.{+◌}
 use Rattle.algebra.specs.Near.{Near}
 use Rattle.instants.specs.Moments.{since_j2000}
 use Rattle.zonal.specs.declared.Corrections.{Corrections}
-use Rattle.zonal.specs.declared.ZonalAnswer.TheVariants.{Zonal}
 use Rattle.zonal.specs.Exact.{denominator, exact_ut1, exact_lod, exact_rate}
 use Rattle.zonal.specs.Ours.{zonal_of}
 
@@ -32,5 +31,5 @@ pub record Within (e : Distances) (n : ℤ) (c : Corrections) : Type 0 where
 -- The instant is answered, within the distances e.
 pub record Answered (e : Distances) (d : ℤ) (m : ℕ) : Type 0 where
   pub numbers : Corrections
-  pub given : zonal_of d m ≡ Zonal numbers
+  pub given : zonal_of d m ≡ Ok numbers
   pub within : Within e (since_j2000 d m) numbers

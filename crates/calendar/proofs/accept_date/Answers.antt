@@ -1,13 +1,13 @@
 -- The three tests of the code are the cases of the definition in their order; a date that passes them has the index that years, months and days add up to.
 use Rattle.std.proofs.Common.{◌≡◌, ap, ◌+◌, ◌-◌}
-use Rattle.instants.specs.declared.Acceptance.TheVariants.{Accepted}
 use Rattle.calendar.specs.Dates.{date, date_index}
 use Rattle.calendar.specs.Inner.{date_acceptance}
 use Rattle.calendar.proofs.accept_date.Goals as goal
+use Rattle.std.specs.Prelude.{Ok}
 
 pub returns : goal.returns
 unfolding date_acceptance date_index
 returns c =
     let a = c.args in
     let n : c.years.result + c.before-2.result + (a.day - 1) ≡ date_index (date a.year a.month a.day) = simp (c.years.ensures.days, c.before-2.ensures.days) in
-    simp (c.if-year.false, c.if-month.false, ← c.month_length.ensures.days, c.if-day-month_length.false) (ap Accepted n)
+    simp (c.if-year.false, c.if-month.false, ← c.month_length.ensures.days, c.if-day-month_length.false) (ap Ok n)

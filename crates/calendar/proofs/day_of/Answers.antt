@@ -2,24 +2,22 @@
 use Rattle.std.proofs.Common.{◌≡◌, refl, ◌∙◌, ap, sym, arith, rules, w64, ℕ}
 use mir.Facts.{to_z-of_z}
 use Rattle.instants.specs.Instants.{day_at_index}
-use Rattle.instants.specs.declared.Acceptance.{Acceptance}
-use Rattle.instants.specs.declared.Acceptance.TheVariants.{Accepted, NotAccepted}
 use Rattle.instants.proofs.FirstRefusal.{handed_on}
-use Rattle.calendar.specs.declared.DayAnswer.{DayAnswer}
-use Rattle.calendar.specs.declared.DayAnswer.TheVariants.{Day, NoDay}
 use Rattle.calendar.specs.Dates.{date_cases, day_of}
 use Rattle.calendar.specs.Inner.{date_acceptance}
 use Rattle.calendar.proofs.Inverse.{date_at}
 use Rattle.calendar.proofs.day_of.Goals as goal
+use Rattle.std.specs.Prelude.{Result, Ok, Err}
+use Rattle.instants.specs.declared.refusal.Refusal.{Refusal}
 
 -- the match of the code
-abbrev day_by : Acceptance → DayAnswer
-day_by (Accepted i) = Day (day_at_index i)
-day_by (NotAccepted n) = NoDay n
+abbrev day_by : Result ℕ Refusal → Result ℤ Refusal
+day_by (Ok i) = Ok (day_at_index i)
+day_by (Err n) = Err n
 
 matched : (y m d : ℕ) → day_by (date_acceptance y m d) ≡ day_of y m d
 unfolding date_acceptance day_of
-matched y m d = handed_on NotAccepted day_by (λ k. refl) (date_cases y m d) _
+matched y m d = handed_on Err day_by (λ k. refl) (date_cases y m d) _
 
 pub day_at_index-requires : goal.day_at_index-requires
 day_at_index-requires c = omega (arith, (date_at _ _ _ _ (sym c.in-Accepted.ensures)).high)
@@ -28,4 +26,4 @@ pub returns-in-NotAccepted : goal.returns-in-NotAccepted
 returns-in-NotAccepted c = rw (← matched, ← c.in-NotAccepted.ensures) refl
 
 pub returns-in-Accepted : goal.returns-in-Accepted
-returns-in-Accepted c = rw (← matched, ← c.in-Accepted.ensures) (ap Day (to_z-of_z {w = w64} (search rules) ∙ c.day_at_index.ensures))
+returns-in-Accepted c = rw (← matched, ← c.in-Accepted.ensures) (ap Ok (to_z-of_z {w = w64} (search rules) ∙ c.day_at_index.ensures))

@@ -3,31 +3,30 @@ use Rattle.std.proofs.Common.{◌≡◌, refl, ◌∙◌, ap, sym, arith, rules,
 use mir.Facts.{to_z-of_z}
 use Rattle.instants.specs.Refusals.{refused_or}
 use Rattle.instants.specs.Instants.{instant, day_at_index}
-use Rattle.instants.specs.declared.Acceptance.{Acceptance}
-use Rattle.instants.specs.declared.Acceptance.TheVariants.{Accepted, NotAccepted}
 use Rattle.instants.proofs.FirstRefusal.{handed_on}
-use Rattle.calendar.specs.declared.InstantAnswer.{InstantAnswer}
-use Rattle.calendar.specs.declared.InstantAnswer.TheVariants.{AtInstant, NoInstant}
 use Rattle.calendar.specs.Dates.{date, date_index, date_cases}
 use Rattle.calendar.specs.Times.{time_cases, instant_of}
 use Rattle.calendar.specs.Inner.{date_acceptance, time_acceptance}
 use Rattle.calendar.proofs.Inverse.{date_at}
 use Rattle.calendar.proofs.instant_of.Goals as goal
+use Rattle.std.specs.Prelude.{Result, Ok, Err}
+use Rattle.instants.specs.declared.Instant.{Instant}
+use Rattle.instants.specs.declared.refusal.Refusal.{Refusal}
 
 -- the matches of the code: the date's refusal comes first
-abbrev on_day : ℕ → Acceptance → InstantAnswer
-on_day i (Accepted u) = AtInstant (instant (day_at_index i) u)
-on_day i (NotAccepted k) = NoInstant k
+abbrev on_day : ℕ → Result ℕ Refusal → Result Instant Refusal
+on_day i (Ok u) = Ok (instant (day_at_index i) u)
+on_day i (Err k) = Err k
 
-abbrev by_date : Acceptance → Acceptance → InstantAnswer
-by_date (Accepted i) time = on_day i time
-by_date (NotAccepted n) time = NoInstant n
+abbrev by_date : Result ℕ Refusal → Result ℕ Refusal → Result Instant Refusal
+by_date (Ok i) time = on_day i time
+by_date (Err n) time = Err n
 
 matched : (y m d h n s u : ℕ) → by_date (date_acceptance y m d) (time_acceptance 59 h n s u) ≡ instant_of y m d h n s u
 unfolding date_acceptance time_acceptance instant_of
 matched y m d h n s u =
-    handed_on NotAccepted (λ (a : Acceptance). by_date a (time_acceptance 59 h n s u)) (λ k. refl) (date_cases y m d) (Accepted (date_index (date y m d)))
-    ∙ ap (refused_or NoInstant (date_cases y m d)) (handed_on NotAccepted (on_day (date_index (date y m d))) (λ k. refl) (time_cases 59 h n s u) _)
+    handed_on Err (λ (a : (Result ℕ Refusal)). by_date a (time_acceptance 59 h n s u)) (λ k. refl) (date_cases y m d) (Ok (date_index (date y m d)))
+    ∙ ap (refused_or Err (date_cases y m d)) (handed_on Err (on_day (date_index (date y m d))) (λ k. refl) (time_cases 59 h n s u) _)
 
 pub day_at_index-requires : goal.day_at_index-requires
 day_at_index-requires c = omega (arith, (date_at _ _ _ _ (sym c.in-Accepted.ensures)).high)
@@ -41,4 +40,4 @@ returns-in-NotAccepted-accept_time c = rw (← matched, ← c.in-Accepted.ensure
 pub returns-in-Accepted-accept_time : goal.returns-in-Accepted-accept_time
 returns-in-Accepted-accept_time c =
     rw (← matched, ← c.in-Accepted.ensures, ← c.in-Accepted-accept_time.ensures)
-    (ap (λ (d : ℤ). AtInstant (instant d c.in-Accepted-accept_time.u)) (to_z-of_z {w = w64} (search rules) ∙ c.day_at_index.ensures))
+    (ap (λ (d : ℤ). Ok (instant d c.in-Accepted-accept_time.u)) (to_z-of_z {w = w64} (search rules) ∙ c.day_at_index.ensures))

@@ -5,16 +5,16 @@ use Rattle.instants.proofs.FirstRefusal.{refused_first}
 use Rattle.row_bytes.specs.Form.{table_in, bytes_cases, AcceptedBytes}
 use Rattle.row_bytes.specs.Inner.{bytes_refusal}
 use Rattle.row_bytes.proofs.Forms.{lent}
-use Rattle.nutation.specs.declared.NutationAnswer.TheVariants.{NoNutation}
 use Rattle.nutation.specs.Ours.{nutation_with, nutation_rows_of}
 use Rattle.nutation.proofs.Promises.{rows_answered}
 use Rattle.nutation.proofs.nutation_rows_of.Goals as goal
+use Rattle.std.specs.Prelude.{Err}
 
 pub returns-then-n-ne0 : goal.returns-then-n-ne0
 unfolding nutation_rows_of bytes_refusal
 returns-then-n-ne0 c =
     let e = c.refusal-n.ensures in
-    ap NoNutation e ∙ sym (refused_first NoNutation (bytes_cases c.args.s.now) _ (λ q. c.if-n-ne0.true (e ∙ q)))
+    ap Err e ∙ sym (refused_first Err (bytes_cases c.args.s.now) _ (λ q. c.if-n-ne0.true (e ∙ q)))
 
 pub nutation_with-requires : goal.nutation_with-requires
 unfolding bytes_refusal

@@ -1,10 +1,10 @@
 -- Bytes that read as a record give the one of their fields.
 use Rattle.std.proofs.Common.{◌^◌, ◌<◌, ◌≤◌, length, sym, ap, ◌∙◌, arith, w64}
 use mir.Facts.{to_z_pos}
-use Rattle.record.specs.declared.ReadAnswer.TheVariants.{IsRecord}
 use Rattle.record.specs.Format.{record_length}
 use Rattle.record.proofs.Unrefused.{is_record_lem, known_record, read_long}
 use Rattle.record.proofs.known.Goals as goal
+use Rattle.std.specs.Prelude.{Ok}
 
 pub field_at-requires-clause-within : goal.field_at-requires-clause-within
 field_at-requires-clause-within c =
@@ -24,4 +24,4 @@ record_of-requires c = let r = is_record_lem _ c.requires in read_long c.args.s.
 pub returns : goal.returns
 returns c =
     let l : c.field_at.result < 2 ^ 63 = omega (arith, c.field_at.ensures.below) in
-    ap IsRecord (c.record_of.ensures ∙ rw (to_z_pos w64 l) (simp (c.field_at.ensures.number, c.field_at-2.ensures.number))) ∙ sym (known_record _ c.requires)
+    ap Ok (c.record_of.ensures ∙ rw (to_z_pos w64 l) (simp (c.field_at.ensures.number, c.field_at-2.ensures.number))) ∙ sym (known_record _ c.requires)

@@ -1,11 +1,11 @@
 -- Each return has the tests that led there.
 use Rattle.std.proofs.Common.{ap, true, false, ◌∙◌, arith}
 use Rattle.rescue.specs.declared.Counts.{Counts}
-use Rattle.rescue.specs.declared.RescueAnswer.TheVariants.{Rescued}
 use Rattle.rescue.proofs.Ranges.{ranges_few}
 use Rattle.rescue.proofs.Rounds.{kept_few}
 use Rattle.rescue.proofs.Answers.{too_many, tested, too_short, counted}
 use Rattle.rescue.proofs.rescue_of.Goals as goal
+use Rattle.std.specs.Prelude.{Ok}
 
 pub returns-then-s-gt-MOST_BYTES : goal.returns-then-s-gt-MOST_BYTES
 returns-then-s-gt-MOST_BYTES c = too_many c.args.s.now c.args.records c.args.list c.if-s-gt-MOST_BYTES.true
@@ -26,4 +26,4 @@ pub returns : goal.returns
 returns c =
     let a = c.args in
     let t = tested a.s.now a.records a.list c.count-c.result false c.count-c.ensures c.if-records-c.false in
-    ap Rescued c.count-c.ensures ∙ counted a.s.now a.records a.list c.if-s-gt-MOST_BYTES.false t
+    ap Ok c.count-c.ensures ∙ counted a.s.now a.records a.list c.if-s-gt-MOST_BYTES.false t

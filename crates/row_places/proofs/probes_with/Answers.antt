@@ -3,15 +3,16 @@ use Rattle.std.proofs.Common.{◌≡◌, ℕ, ℤ, sym, ap, ◌∙◌, arith}
 use Rattle.std.proofs.Math.Facts.{to_z-of_z}
 use Rattle.instants.specs.Instants.{acceptance}
 use Rattle.instants.specs.Moments.{moment}
-use Rattle.instants.specs.declared.Acceptance.{Acceptance}
 use Rattle.instants.proofs.Accepted.{accepted_at, refused_too, answered_too}
 use Rattle.row_bytes.specs.Form.{table_in}
 use Rattle.row_places.specs.declared.Bracket.{Bracket}
 use Rattle.row_places.specs.Lookup.{lookup_of}
 use Rattle.row_places.proofs.probes_with.Goals as goal
+use Rattle.std.specs.Prelude.{Result}
+use Rattle.instants.specs.declared.refusal.Refusal.{Refusal}
 
 -- what was answered of the day as the machine reads it back is answered of the day
-says : {a : Acceptance} {d d' : ℤ} (m : ℕ) → a ≡ acceptance d m → d ≡ d' → acceptance d' m ≡ a
+says : {a : (Result ℕ Refusal)} {d d' : ℤ} (m : ℕ) → a ≡ acceptance d m → d ≡ d' → acceptance d' m ≡ a
 says m e p = sym (e ∙ ap (λ (d : ℤ). acceptance d m) p)
 
 pub moment-requires-clause-index : goal.moment-requires-clause-index

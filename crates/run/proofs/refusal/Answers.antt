@@ -5,7 +5,6 @@ use Rattle.std.specs.Int.RustNames.{FitsSigned}
 use Rattle.std.proofs.Math.Facts.{to_z-of_z}
 use borrow.Author.Tests.{lt-ltb, le-ltb}
 use Rattle.instants.specs.declared.Instant.{Instant}
-use Rattle.instants.specs.declared.Acceptance.{Acceptance}
 use Rattle.instants.specs.Limits.{last_day, day_micros}
 use Rattle.instants.specs.Refusals.{case, first_refusal}
 use Rattle.instants.specs.Instants.{acceptance, IsAccepted, later_day, later_micros}
@@ -17,13 +16,16 @@ use Rattle.instants.proofs.Accepted.{between, unrefused_accepted}
 use Rattle.instants.proofs.LaterInstants.{later_refusal, day_fits}
 use Rattle.run.proofs.Refusals.{Counted, refused_at_start, refused_later, steps_few}
 use Rattle.run.proofs.refusal.Goals as goal
+use Rattle.std.specs.Prelude.{Result}
+use Rattle.instants.specs.declared.refusal.Refusal.{Refusal}
+use Rattle.instants.specs.declared.refusal.Refusal.TheVariants.{Day, BufferShort}
 
 -- a day number, read from its bits
 abbrev back : ℤ → ℤ
 back d = to_z w64 (of_z w64 d)
 
 -- the refusal r of an instant is that of its acceptance
-says : {d : ℤ} (m : ℕ) {a : Acceptance} {r : ℕ} → FitsSigned w64 d → a ≡ acceptance (back d) m → r ≡ acceptance_refusal_of a → r ≡ acceptance_refusal_of (acceptance d m)
+says : {d : ℤ} (m : ℕ) {a : (Result ℕ Refusal)} {r : ℕ} → FitsSigned w64 d → a ≡ acceptance (back d) m → r ≡ acceptance_refusal_of a → r ≡ acceptance_refusal_of (acceptance d m)
 says m f e h = h ∙ ap acceptance_refusal_of (e ∙ ap (λ (z : ℤ). acceptance z m) (to_z-of_z {w = w64} f))
 
 counted : (count step : ℕ) → bad_count count ≡ false → bad_step step ≡ false → Counted count step
@@ -46,8 +48,8 @@ module _ (d : ℤ) (m count step size : ℕ) (h : Counted count step) (a : IsAcc
   abbrev short : Bool
   short = ltb size (record_length * count)
 
-  last_is : {i : Instant} {b : Acceptance} {r : ℕ} → FitsSigned w64 d → i ≡ later_instant (back d) m t → b ≡ acceptance (back i.day) i.micros → r ≡ acceptance_refusal_of b
-      → r ≡ first_refusal (case 8 past ∷ [])
+  last_is : {i : Instant} {b : (Result ℕ Refusal)} {r : ℕ} → FitsSigned w64 d → i ≡ later_instant (back d) m t → b ≡ acceptance (back i.day) i.micros → r ≡ acceptance_refusal_of b
+      → r ≡ first_refusal (case Day past ∷ [])
   last_is f ei eb er =
       er
       ∙ (ap acceptance_refusal_of
@@ -56,18 +58,18 @@ module _ (d : ℤ) (m count step size : ℕ) (h : Counted count step) (a : IsAcc
       ∙ ap (λ (z : ℤ). acceptance z (later_micros m t)) (to_z-of_z {w = w64} (day_fits d m t a (few h)))))
       ∙ later_refusal d m t a)
 
-  rest : run_refusal d m count step size ≡ first_refusal (case 8 past ∷ case 12 short ∷ [])
+  rest : run_refusal d m count step size ≡ first_refusal (case Day past ∷ case BufferShort short ∷ [])
   rest = refused_later d m count step size h a
 
   -- a last instant with a refusal, and one without
-  ended : {r : ℕ} → r ≡ first_refusal (case 8 past ∷ []) → (r ≡ 0 → ⊥) → r ≡ run_refusal d m count step size
-  ended e n = e ∙ sym (refused_first (λ k. k) (case 8 past ∷ []) _ (λ q. n (e ∙ q))) ∙ sym rest
+  ended : {r : ℕ} → r ≡ first_refusal (case Day past ∷ []) → (r ≡ 0 → ⊥) → r ≡ run_refusal d m count step size
+  ended e n = e ∙ sym (refused_first (λ k. k) (case Day past ∷ []) _ (λ q. n (e ∙ q))) ∙ sym rest
 
-  went_on : {r : ℕ} → r ≡ first_refusal (case 8 past ∷ []) → r ≡ 0 → run_refusal d m count step size ≡ first_refusal (case 12 short ∷ [])
-  went_on e n = rest ∙ none_answered (λ k. k) (case 8 past ∷ []) _ (first_none (case 8 past ∷ []) tt (sym e ∙ n))
+  went_on : {r : ℕ} → r ≡ first_refusal (case Day past ∷ []) → r ≡ 0 → run_refusal d m count step size ≡ first_refusal (case BufferShort short ∷ [])
+  went_on e n = rest ∙ none_answered (λ k. k) (case Day past ∷ []) _ (first_none (case Day past ∷ []) tt (sym e ∙ n))
 
-  fits_not : {r : ℕ} (b : Bool) → r ≡ first_refusal (case 8 past ∷ []) → r ≡ 0 → short ≡ b → first_refusal (case 12 b ∷ []) ≡ run_refusal d m count step size
-  fits_not b e n s = sym (went_on e n ∙ ap (λ (x : Bool). first_refusal (case 12 x ∷ [])) s)
+  fits_not : {r : ℕ} (b : Bool) → r ≡ first_refusal (case Day past ∷ []) → r ≡ 0 → short ≡ b → first_refusal (case BufferShort b ∷ []) ≡ run_refusal d m count step size
+  fits_not b e n s = sym (went_on e n ∙ ap (λ (x : Bool). first_refusal (case BufferShort x ∷ [])) s)
 
 -- ---- the goals
 

@@ -6,10 +6,12 @@ use Rattle.instants.specs.declared.Instant.{Instant}
 use Rattle.instants.specs.Instants.{later_day, later_micros}
 use Rattle.instants.specs.Inner.{later_instant, LaterBounds}
 use Rattle.instants.proofs.LaterInstants.{day_fits}
-use Rattle.zonal.specs.declared.ZonalAnswer.{ZonalAnswer}
 use Rattle.zonal.specs.Ours.{zonal_of}
 use Rattle.run.proofs.Records.{written_refused, written_given}
 use Rattle.run.proofs.write_later.Goals as goal
+use Rattle.std.specs.Prelude.{Result}
+use Rattle.zonal.specs.declared.Corrections.{Corrections}
+use Rattle.instants.specs.declared.refusal.Refusal.{Refusal}
 
 -- a day number, read from its bits
 abbrev back : ℤ → ℤ
@@ -24,7 +26,7 @@ module _ {d : ℤ} {m t : ℕ} (f : FitsSigned w64 d) (b : LaterBounds d m t) {i
   read = to_z-of_z {w = w64} (day_fits d m t b.accepted b.few)
 
   -- r is the answer there
-  says : {r : ZonalAnswer} → r ≡ zonal_of (back i.day) i.micros → zonal_of (later_day d m t) (later_micros m t) ≡ r
+  says : {r : (Result Corrections Refusal)} → r ≡ zonal_of (back i.day) i.micros → zonal_of (later_day d m t) (later_micros m t) ≡ r
   says z = sym (z ∙ (ap (λ (j : Instant). zonal_of (back j.day) j.micros) at ∙ ap (λ (k : ℤ). zonal_of k (later_micros m t)) read))
 
 pub returns-in-NoZonal : goal.returns-in-NoZonal

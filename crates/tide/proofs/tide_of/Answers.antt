@@ -5,30 +5,29 @@ use Rattle.utc.specs.PhaseInstants.{PhaseInstant}
 use Rattle.utc.specs.Inner.{parts_of, phase_answer}
 use Rattle.utc.specs.declared.Reading.{Reading}
 use Rattle.utc.specs.declared.PhaseParts.{PhaseParts}
-use Rattle.utc.specs.declared.PhaseAnswer.{PhaseAnswer}
-use Rattle.utc.specs.declared.PhaseAnswer.TheVariants.{AtPhase, NoPhase}
 use Rattle.utc.proofs.PhaseInstants.{at_both, phase_is, answer_together}
 use Rattle.tide.specs.Tidal.{arguments_at, answer_of, tide_of}
 use Rattle.tide.specs.declared.Arguments.{Arguments}
 use Rattle.tide.specs.declared.Doodson.{Doodson}
-use Rattle.tide.specs.declared.TideAnswer.{TideAnswer}
-use Rattle.tide.specs.declared.TideAnswer.TheVariants.{NoTide}
 use Rattle.tide.proofs.tide_of.Goals as goal
+use Rattle.std.specs.Prelude.{Result, Ok, Err}
+use Rattle.tide.specs.declared.Constituent.{Constituent}
+use Rattle.instants.specs.declared.refusal.Refusal.{Refusal}
 
 module _ (r : Reading) (k : Doodson) where
   -- where the parts are given, the answer is that of their arguments
-  answered : (x : PhaseParts) (a : Arguments) → ((p : PhaseInstant) → x ≡ parts_of p → a ≡ arguments_at p) → phase_answer r ≡ AtPhase x → answer_of a k ≡ tide_of r k
+  answered : (x : PhaseParts) (a : Arguments) → ((p : PhaseInstant) → x ≡ parts_of p → a ≡ arguments_at p) → phase_answer r ≡ Ok x → answer_of a k ≡ tide_of r k
   unfolding tide_of
   answered x a h i =
-      at_both (λ (y : PhaseAnswer) (z : TideAnswer). y ≡ AtPhase x → answer_of a k ≡ z) NoPhase NoTide (λ p. AtPhase (parts_of p)) (λ p. answer_of (arguments_at p) k) r
+      at_both (λ (y : (Result PhaseParts Refusal)) (z : (Result Constituent Refusal)). y ≡ Ok x → answer_of a k ≡ z) Err Err (λ p. Ok (parts_of p)) (λ p. answer_of (arguments_at p) k) r
       (λ n e. impossible (cc)) (λ p _ e. ap (λ (a : Arguments). answer_of a k) (h p (cc))) (phase_is r ∙ i)
 
   -- where a refusal is, it is handed on
-  refused : (n : ℕ) → phase_answer r ≡ NoPhase n → NoTide n ≡ tide_of r k
+  refused : (n : ℕ) → phase_answer r ≡ Err n → Err n ≡ tide_of r k
   unfolding tide_of
   refused n i =
-      at_both (λ (y : PhaseAnswer) (z : TideAnswer). y ≡ NoPhase n → NoTide n ≡ z) NoPhase NoTide (λ p. AtPhase (parts_of p)) (λ p. answer_of (arguments_at p) k) r
-      (λ m e. ap NoTide (cc)) (λ p _ e. impossible (cc)) (phase_is r ∙ i)
+      at_both (λ (y : (Result PhaseParts Refusal)) (z : (Result Constituent Refusal)). y ≡ Err n → Err n ≡ z) Err Err (λ p. Ok (parts_of p)) (λ p. answer_of (arguments_at p) k) r
+      (λ m e. ap Err (cc)) (λ p _ e. impossible (cc)) (phase_is r ∙ i)
 
 pub arguments_at-requires : goal.arguments_at-requires
 arguments_at-requires c = answer_together _ _ (sym c.in-AtPhase.ensures)

@@ -2,9 +2,9 @@
 use Rattle.std.proofs.Common.{ap, arith, ◌-◌, ◌≤◌}
 use borrow.Author.Tests.{lt-ltb, le-ltb, le-leb, lt-leb}
 use Rattle.utc.specs.Inner.{reading_answer}
-use Rattle.utc.specs.declared.ReadingAnswer.TheVariants.{AtReading}
 use Rattle.utc.proofs.Days.{first_begins, expiry_begins, begins_to}
 use Rattle.utc.proofs.reading_on.Goals as goal
+use Rattle.std.specs.Prelude.{Ok}
 
 pub returns-then-x-lt-FIRST_MOMENT : goal.returns-then-x-lt-FIRST_MOMENT
 unfolding reading_answer
@@ -32,7 +32,7 @@ returns-then-x-begins c =
       lt-ltb _ _ c.if-x-begins.true,
       ← c.day_begins.ensures,
     )
-    (ap AtReading c.reading_at.ensures)
+    (ap Ok c.reading_at.ensures)
 
 pub returns : goal.returns
 unfolding reading_answer
@@ -46,4 +46,4 @@ returns c =
       le-ltb _ _ c.if-x-begins.false,
       ← c.day_begins-begins.ensures,
     )
-    (ap AtReading c.reading_at-2.ensures)
+    (ap Ok c.reading_at-2.ensures)

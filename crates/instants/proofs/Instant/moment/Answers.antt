@@ -6,7 +6,7 @@ use Rattle.instants.specs.Instants.{day_index, IsAccepted}
 use Rattle.instants.specs.Moments.{moment}
 use Rattle.instants.proofs.Signs.{DayInRange, biased_sum, biased_read}
 use Rattle.instants.proofs.Accepted.{AcceptedAt, accepted_at, range, index_of}
-use Rattle.instants.proofs.moment_of.Goals as goal
+use Rattle.instants.proofs.Instant.moment.Goals as goal
 
 module _ (d : ℤ) (m : ℕ) (f : FitsSigned w64 d) (a : IsAccepted d m) where
   at : AcceptedAt d m (day_index d)
@@ -22,18 +22,18 @@ module _ (d : ℤ) (m : ℕ) (f : FitsSigned w64 d) (a : IsAccepted d m) where
   covered : day_index d < days_covered
   covered = omega (arith, at.high)
 
-pub overflow_add-day : goal.overflow_add-day
-overflow_add-day c = biased_sum c.args.day c.ranges.day (day c.args.day _ c.ranges.day c.requires)
+pub overflow_add-self : goal.overflow_add-self
+overflow_add-self c = biased_sum c.args.self.day c.ranges.day (day c.args.self.day _ c.ranges.day c.requires)
 
-pub overflow_cast-day : goal.overflow_cast-day
-overflow_cast-day c =
-    rw (reads c.args.day _ c.ranges.day c.requires) (tt, record { fits = omega (arith, covered c.args.day _ c.ranges.day c.requires) })
+pub overflow_cast-self : goal.overflow_cast-self
+overflow_cast-self c =
+    rw (reads c.args.self.day _ c.ranges.day c.requires) (tt, record { fits = omega (arith, covered c.args.self.day _ c.ranges.day c.requires) })
 
 pub moment-requires-clause-index : goal.moment-requires-clause-index
-moment-requires-clause-index c = rw (reads c.args.day _ c.ranges.day c.requires) (covered c.args.day _ c.ranges.day c.requires)
+moment-requires-clause-index c = rw (reads c.args.self.day _ c.ranges.day c.requires) (covered c.args.self.day _ c.ranges.day c.requires)
 
 pub moment-requires-clause-micros : goal.moment-requires-clause-micros
-moment-requires-clause-micros c = (at c.args.day _ c.ranges.day c.requires).less
+moment-requires-clause-micros c = (at c.args.self.day _ c.ranges.day c.requires).less
 
 pub returns : goal.returns
-returns c = c.moment.ensures ∙ ap (λ (z : ℤ). moment (nat_abs z) c.args.micros) (reads c.args.day _ c.ranges.day c.requires)
+returns c = c.moment.ensures ∙ ap (λ (z : ℤ). moment (nat_abs z) c.args.self.micros) (reads c.args.self.day _ c.ranges.day c.requires)
