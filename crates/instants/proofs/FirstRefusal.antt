@@ -9,6 +9,7 @@ use lib.Dec.{T, ltb}
 use borrow.Author.Tests.{ltb-true}
 use Rattle.std.specs.Prelude.{Result, Ok, Err, ⊤}
 use Rattle.instants.specs.declared.refusal.Refusal.{Refusal}
+use Rattle.instants.specs.declared.refusal.Refusal.TheVariants.{Year, Month, DayOfMonth, Hour, Minute, Second, Microsecond, Day, Micros, WordsDisagree, Multiplier, BufferShort, RecordLength, RecordVersion, RecordZero, RecordSum, RunCount, RunStep, UtcEarly, UtcExpired, RowsLength, RowsVersion, RowsDay, RowsSize, RescueLength, DayOfYear, FileLength, FileOrder}
 use Rattle.instants.specs.Refusals.{Case, refused_or, first_refusal, check, number, refusal_of}
 use Rattle.instants.proofs.Impossible.{impossible}
 
@@ -48,9 +49,41 @@ refused_alike_lem {A} {B} refuse refuse' cs a b n i h =
 pub first_checked : (cs : List Case) → refusal_of (check cs) ≡ first_refusal cs
 first_checked cs = in_both_lem (λ (x : Result ⊤ Refusal) (k : ℕ). refusal_of x ≡ k) Err number cs (Ok tt) 0 (λ r. refl) (λ h. refl)
 
+-- a number is one of the 28
+number_counts : (r : Refusal) → (0 < number r) × (number r < 29)
+unfolding number
+number_counts Year = (omega arith, omega arith)
+number_counts Month = (omega arith, omega arith)
+number_counts DayOfMonth = (omega arith, omega arith)
+number_counts Hour = (omega arith, omega arith)
+number_counts Minute = (omega arith, omega arith)
+number_counts Second = (omega arith, omega arith)
+number_counts Microsecond = (omega arith, omega arith)
+number_counts Day = (omega arith, omega arith)
+number_counts Micros = (omega arith, omega arith)
+number_counts WordsDisagree = (omega arith, omega arith)
+number_counts Multiplier = (omega arith, omega arith)
+number_counts BufferShort = (omega arith, omega arith)
+number_counts RecordLength = (omega arith, omega arith)
+number_counts RecordVersion = (omega arith, omega arith)
+number_counts RecordZero = (omega arith, omega arith)
+number_counts RecordSum = (omega arith, omega arith)
+number_counts RunCount = (omega arith, omega arith)
+number_counts RunStep = (omega arith, omega arith)
+number_counts UtcEarly = (omega arith, omega arith)
+number_counts UtcExpired = (omega arith, omega arith)
+number_counts RowsLength = (omega arith, omega arith)
+number_counts RowsVersion = (omega arith, omega arith)
+number_counts RowsDay = (omega arith, omega arith)
+number_counts RowsSize = (omega arith, omega arith)
+number_counts RescueLength = (omega arith, omega arith)
+number_counts DayOfYear = (omega arith, omega arith)
+number_counts FileLength = (omega arith, omega arith)
+number_counts FileOrder = (omega arith, omega arith)
+
 -- no number is 0
 pub number_positive : (r : Refusal) → 0 < number r
-number_positive r = search rules
+number_positive r = omega (arith, number_counts r)
 
 -- a first refusal of 0 says that no case applies
 pub first_none : (cs : List Case) → first_refusal cs ≡ 0 → NoneApplies cs
@@ -104,7 +137,10 @@ module _ {A : Type 0} (refuse : Refusal → A) where
 
   -- the first that applies refuses every service with these cases
   pub refused_checked : (cs : List Case) (a : A) (r : Refusal) → check cs ≡ Err r → refused_or refuse cs a ≡ refuse r
-  refused_checked cs a r e = refused_alike_lem Err refuse cs (Ok tt) a r (λ k p. cc) (λ p. impossible (cc)) e
+  refused_checked cs a r e = refused_alike_lem {A = Result ⊤ Refusal} Err refuse cs (Ok tt) a r same (λ p. impossible (cc)) e
+    where
+      same : (k : Refusal) → ◌≡◌ {A = Result ⊤ Refusal} (Err k) (Err r) → k ≡ r
+      same k p = cc
 
   -- where a case applies there is a first
   pub refused_first : (cs : List Case) (a : A) → (first_refusal cs ≡ 0 → ⊥) → Refused refuse cs (refused_or refuse cs a)
@@ -130,7 +166,7 @@ first_behind (c ∷ cs) ds es h = by c.applies refl (first_behind cs ds es)
 
 -- every number is below 29
 pub number_below : (r : Refusal) → number r < 29
-number_below r = search rules
+number_below r = omega (arith, number_counts r)
 
 -- and so is the first refusal
 pub first_below : (cs : List Case) → first_refusal cs < 29

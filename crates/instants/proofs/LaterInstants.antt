@@ -16,10 +16,9 @@ use Rattle.algebra.proofs.Fits.{small_fits}
 use Rattle.algebra.specs.Integers.{+◌}
 use Rattle.algebra.proofs.Ring.{end, ◌▸◌, ring, quote}
 use Rattle.instants.specs.Limits.{first_day, last_day, day_micros, index_offset}
-use Rattle.instants.specs.Refusals.{case, first_refusal}
+use Rattle.instants.specs.Refusals.{case, first_refusal, refusal_of}
 use Rattle.instants.specs.Instants.{outside, day_index, acceptance, IsAccepted, later_day, later_micros}
 use Rattle.instants.specs.Moments.{since_j2000}
-use Rattle.instants.specs.Inner.{acceptance_refusal_of}
 use Rattle.instants.proofs.Accepted.{both_false, AcceptedAt, accepted_at, accepted, acceptance_refusal}
 use Rattle.instants.specs.declared.refusal.Refusal.TheVariants.{Day}
 
@@ -69,7 +68,7 @@ module _ (d : ℤ) (m t : ℕ) (a : IsAccepted d m) where
 
 -- an instant after an accepted one is refused by 8 when it is past the last day, and by nothing else
 pub later_refusal : (d : ℤ) (m t : ℕ) → IsAccepted d m
-    → acceptance_refusal_of (acceptance (later_day d m t) (later_micros m t)) ≡ first_refusal (case Day (lt_z last_day (later_day d m t)) ∷ [])
+    → refusal_of (acceptance (later_day d m t) (later_micros m t)) ≡ first_refusal (case Day (lt_z last_day (later_day d m t)) ∷ [])
 later_refusal d m t a =
     acceptance_refusal (later_day d m t) (later_micros m t)
     ∙ rw (outside_later d _ (accepted_at d m (day_index d) a).inside, lt-leb day_micros (later_micros m t) (omega arith)) refl

@@ -3,13 +3,13 @@
 
 mod refusal;
 
-pub use refusal::Refusal;
-
 ghost use Rattle.std.specs.Prelude.{◌≡◌, ◌<◌};
 ghost use Rattle.instants.specs.Limits.{day_micros, days_covered};
 ghost use Rattle.instants.specs.Instants.{day_at_index, acceptance, IsAccepted};
 ghost use Rattle.instants.specs.Moments as moments;
 ghost use Rattle.instants.specs.Inner.{index_limit, index_answer, later_instant, LaterBounds};
+
+pub use refusal::Refusal;
 
 // The day numbers of 1900-01-01 and 2100-12-31.
 const FIRST_DAY: i64 = 15020;

@@ -1,5 +1,5 @@
 -- The sums fit since the instant is accepted, so the bits that the code adds are the numbers.
-use Rattle.std.proofs.Common.{◌≡◌, ◌∙◌, ap, arith, ◌+◌, ◌/◌, ◌<◌, ◌^◌, ℕ, w64, ℤ, ◌+ℤ◌, to_z, of_z, FitsSigned}
+use Rattle.std.proofs.Common.{rules, ◌≡◌, ◌∙◌, ap, arith, ◌+◌, ◌/◌, ◌<◌, ◌^◌, ℕ, w64, ℤ, ◌+ℤ◌, to_z, of_z, FitsSigned}
 use mir.Facts.{to_z-of_z, to_z_pos}
 use Rattle.instants.specs.Limits.{day_micros}
 use Rattle.instants.specs.Instants.{instant, later_day, later_micros}
@@ -17,9 +17,12 @@ pub overflow_add-sum : goal.overflow_add-sum
 overflow_add-sum c = omega (arith, sum_fits c.args.self.day _ _ c.requires.accepted c.requires.few)
 
 pub overflow_add-result : goal.overflow_add-result
-overflow_add-result c = rw (same c.args.self.day _ _ c.ranges.self_day c.requires) (day_fits c.args.self.day _ _ c.requires.accepted c.requires.few)
+overflow_add-result c =
+    let f : FitsSigned w64 c.args.self.day = search rules in
+    rw (same c.args.self.day _ _ f c.requires) (day_fits c.args.self.day _ _ c.requires.accepted c.requires.few)
 
 pub returns : goal.returns
 returns c =
+    let f : FitsSigned w64 c.args.self.day = search rules in
     ap (λ (z : ℤ). instant z (later_micros c.args.self.micros c.args.t))
-    (ap (λ (z : ℤ). to_z w64 (of_z w64 z)) (same c.args.self.day _ _ c.ranges.self_day c.requires) ∙ to_z-of_z (day_fits c.args.self.day _ _ c.requires.accepted c.requires.few))
+    (ap (λ (z : ℤ). to_z w64 (of_z w64 z)) (same c.args.self.day _ _ f c.requires) ∙ to_z-of_z (day_fits c.args.self.day _ _ c.requires.accepted c.requires.few))

@@ -1,5 +1,5 @@
 -- An accepted day number is small, so that its sum with the offset is its index.
-use Rattle.std.proofs.Common.{◌≡◌, ◌∙◌, ap, sym, arith, ◌<◌, ℕ, ℤ, pos, ◌+ℤ◌, w64, to_z, of_z, FitsSigned}
+use Rattle.std.proofs.Common.{rules, ◌≡◌, ◌∙◌, ap, sym, arith, ◌<◌, ℕ, ℤ, pos, ◌+ℤ◌, w64, to_z, of_z, FitsSigned}
 use lib.IntN.{nat_abs}
 use Rattle.instants.specs.Limits.{index_offset, days_covered}
 use Rattle.instants.specs.Instants.{day_index, IsAccepted}
@@ -23,17 +23,26 @@ module _ (d : ℤ) (m : ℕ) (f : FitsSigned w64 d) (a : IsAccepted d m) where
   covered = omega (arith, at.high)
 
 pub overflow_add-self : goal.overflow_add-self
-overflow_add-self c = biased_sum c.args.self.day c.ranges.day (day c.args.self.day _ c.ranges.day c.requires)
+overflow_add-self c =
+    let f : FitsSigned w64 c.args.self.day = search rules in
+    biased_sum c.args.self.day f (day c.args.self.day _ f c.requires)
 
 pub overflow_cast-self : goal.overflow_cast-self
 overflow_cast-self c =
-    rw (reads c.args.self.day _ c.ranges.day c.requires) (tt, record { fits = omega (arith, covered c.args.self.day _ c.ranges.day c.requires) })
+    let f : FitsSigned w64 c.args.self.day = search rules in
+    rw (reads c.args.self.day _ f c.requires) (tt, record { fits = omega (arith, covered c.args.self.day _ f c.requires) })
 
 pub moment-requires-clause-index : goal.moment-requires-clause-index
-moment-requires-clause-index c = rw (reads c.args.self.day _ c.ranges.day c.requires) (covered c.args.self.day _ c.ranges.day c.requires)
+moment-requires-clause-index c =
+    let f : FitsSigned w64 c.args.self.day = search rules in
+    rw (reads c.args.self.day _ f c.requires) (covered c.args.self.day _ f c.requires)
 
 pub moment-requires-clause-micros : goal.moment-requires-clause-micros
-moment-requires-clause-micros c = (at c.args.self.day _ c.ranges.day c.requires).less
+moment-requires-clause-micros c =
+    let f : FitsSigned w64 c.args.self.day = search rules in
+    (at c.args.self.day _ f c.requires).less
 
 pub returns : goal.returns
-returns c = c.moment.ensures ∙ ap (λ (z : ℤ). moment (nat_abs z) c.args.self.micros) (reads c.args.self.day _ c.ranges.day c.requires)
+returns c =
+    let f : FitsSigned w64 c.args.self.day = search rules in
+    c.moment.ensures ∙ ap (λ (z : ℤ). moment (nat_abs z) c.args.self.micros) (reads c.args.self.day _ f c.requires)
