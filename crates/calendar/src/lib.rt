@@ -7,7 +7,7 @@ ghost use Rattle.calendar.specs.Dates.{month_length, year_length, days_of_years,
 ghost use Rattle.calendar.specs.Times.{instant_of};
 ghost use Rattle.calendar.specs.Inner.{leap_day, date_acceptance, time_acceptance, twelfths_at, IsYearDay};
 
-use instants::{Acceptance, IndexAnswer, Instant};
+use instants::{Instant, Refusal};
 
 // The years of a date.
 const FIRST_YEAR: u64 = 1900;
@@ -26,32 +26,20 @@ const DAYS_4: u64 = 1461;
 const DAYS_FROM_1201: u64 = 145731;
 
 // A date of the Gregorian calendar.
-#[derive(Drop)]
+#[derive(Clone, Copy)]
 pub struct Date {
     pub year: u64,
     pub month: u64,
     pub day: u64,
 }
 
-// A date's day number, or its refusal number.
-#[derive(Drop)]
-pub enum DayAnswer {
-    Day(i64),
-    NoDay(u32),
-}
-
-// A day number's date, or its refusal number.
-#[derive(Drop)]
-pub enum DateAnswer {
-    OnDate(Date),
-    NoDate(u32),
-}
-
-// The instant of a date and a time of day, or its refusal number.
-#[derive(Drop)]
-pub enum InstantAnswer {
-    AtInstant(Instant),
-    NoInstant(u32),
+// A time of day.
+#[derive(Clone, Copy)]
+pub struct TimeOfDay {
+    pub hour: u64,
+    pub minute: u64,
+    pub second: u64,
+    pub microsecond: u64,
 }
 
 // A year from 1600 on, and a day of it, counted from 0.
@@ -72,11 +60,7 @@ fn leap(y: u64) -> u64
     ensures days { result ≡ leap_day y }
     ensures most { result ≤ 1 }
 {
-    if (y % 4 == 0) & ((y % 100 != 0) | (y % 400 == 0)) {
-        1
-    } else {
-        0
-    }
+    u64::from((y % 4 == 0) & ((y % 100 != 0) | (y % 400 == 0)))
 }
 
 // The days of the year y.
@@ -124,31 +108,30 @@ fn before(y: u64, m: u64) -> u64
     BEFORE[i] + leap(y)
 }
 
-// The index of an accepted date, or refusal 1, 2 or 3.
-#[tactic(auto, unfolding(crate::specs::Inner::date_acceptance))]
-pub fn accept_date(year: u64, month: u64, day: u64) -> Acceptance
-    ensures { result ≡ date_acceptance year month day }
-{
-    if (year < FIRST_YEAR) | (LAST_YEAR < year) {
-        return Acceptance::NotAccepted(1);
+impl Date {
+    // The index of an accepted date, or refusal 1, 2 or 3.
+    #[tactic(auto, unfolding(crate::specs::Inner::date_acceptance))]
+    pub fn accept(self) -> Result<u64, Refusal>
+        ensures { result ≡ date_acceptance self.year self.month self.day }
+    {
+        if (self.year < FIRST_YEAR) | (LAST_YEAR < self.year) {
+            return Err(Refusal::Year);
+        }
+        if (self.month < 1) | (12 < self.month) {
+            return Err(Refusal::Month);
+        }
+        if (self.day < 1) | (month_length(self.year, self.month) < self.day) {
+            return Err(Refusal::DayOfMonth);
+        }
+        Ok(years(self.year - 1600) + before(self.year, self.month) + (self.day - 1))
     }
-    if (month < 1) | (12 < month) {
-        return Acceptance::NotAccepted(2);
-    }
-    if (day < 1) | (month_length(year, month) < day) {
-        return Acceptance::NotAccepted(3);
-    }
-    let n = years(year - 1600) + before(year, month) + (day - 1);
-    Acceptance::Accepted(n)
-}
 
-// The day number of a date, or refusal 1, 2 or 3.
-pub fn day_of(year: u64, month: u64, day: u64) -> DayAnswer
-    ensures { result ≡ day_of year month day }
-{
-    match accept_date(year, month, day) {
-        Acceptance::NotAccepted(n) => DayAnswer::NoDay(n),
-        Acceptance::Accepted(i) => DayAnswer::Day(instants::day_at_index(i)),
+    // The day number of a date, or refusal 1, 2 or 3.
+    pub fn day_number(self) -> Result<i64, Refusal>
+        ensures { result ≡ day_of self.year self.month self.day }
+    {
+        let index = self.accept()?;
+        Ok(instants::day_at_index(index))
     }
 }
 
@@ -196,57 +179,44 @@ pub fn date_after(n: u64) -> Date
 }
 
 // The date of a day number, or refusal 8.
-pub fn date_of(day: i64) -> DateAnswer
+pub fn date_of(day: i64) -> Result<Date, Refusal>
     ensures { result ≡ date_of day }
 {
-    match instants::day_index(day) {
-        IndexAnswer::NoIndex => DateAnswer::NoDate(8),
-        IndexAnswer::AtIndex(n) => DateAnswer::OnDate(date_after(n)),
-    }
+    let index = instants::day_index(day).ok_or(Refusal::Day)?;
+    Ok(date_after(index))
 }
 
-// The microseconds since 0 h of an accepted time of day, in a minute whose last second is `last`, or refusal 4, 5, 6 or 7.
-#[tactic(auto, unfolding(crate::specs::Inner::time_acceptance))]
-pub fn accept_time(last: u64, hour: u64, minute: u64, second: u64, microsecond: u64) -> Acceptance
-    requires { last ≤ 60 }
-    ensures { result ≡ time_acceptance last hour minute second microsecond }
-{
-    if 23 < hour {
-        return Acceptance::NotAccepted(4);
+impl TimeOfDay {
+    // The microseconds since 0 h of an accepted time of day, in a minute whose last second is `last`, or refusal 4, 5, 6 or 7.
+    #[tactic(auto, unfolding(crate::specs::Inner::time_acceptance))]
+    pub fn accept(self, last: u64) -> Result<u64, Refusal>
+        requires { last ≤ 60 }
+        ensures { result ≡ time_acceptance last self.hour self.minute self.second self.microsecond }
+    {
+        if 23 < self.hour {
+            return Err(Refusal::Hour);
+        }
+        if 59 < self.minute {
+            return Err(Refusal::Minute);
+        }
+        if last < self.second {
+            return Err(Refusal::Second);
+        }
+        if 999999 < self.microsecond {
+            return Err(Refusal::Microsecond);
+        }
+        Ok(((self.hour * 60 + self.minute) * 60 + self.second) * SECOND_MICROS + self.microsecond)
     }
-    if 59 < minute {
-        return Acceptance::NotAccepted(5);
-    }
-    if last < second {
-        return Acceptance::NotAccepted(6);
-    }
-    if 999999 < microsecond {
-        return Acceptance::NotAccepted(7);
-    }
-    let micros = ((hour * 60 + minute) * 60 + second) * SECOND_MICROS + microsecond;
-    Acceptance::Accepted(micros)
 }
 
 // The instant of a date and a time of day, or refusal 1 to 7.
-pub fn instant_of(
-    year: u64,
-    month: u64,
-    day: u64,
-    hour: u64,
-    minute: u64,
-    second: u64,
-    microsecond: u64,
-) -> InstantAnswer
-    ensures { result ≡ instant_of year month day hour minute second microsecond }
+pub fn instant_of(date: Date, time: TimeOfDay) -> Result<Instant, Refusal>
+    ensures { result ≡ instant_of date.year date.month date.day time.hour time.minute time.second time.microsecond }
 {
-    match accept_date(year, month, day) {
-        Acceptance::NotAccepted(n) => InstantAnswer::NoInstant(n),
-        Acceptance::Accepted(i) => match accept_time(59, hour, minute, second, microsecond) {
-            Acceptance::NotAccepted(k) => InstantAnswer::NoInstant(k),
-            Acceptance::Accepted(u) => InstantAnswer::AtInstant(Instant {
-                day: instants::day_at_index(i),
-                micros: u,
-            }),
-        },
-    }
+    let index = date.accept()?;
+    let micros = time.accept(59)?;
+    Ok(Instant {
+        day: instants::day_at_index(index),
+        micros,
+    })
 }

@@ -30,9 +30,13 @@ covered_time n u = refused_or Err (cover_cases n) (Ok (utc_time n u))
 unfoldable pub reading_acceptance : Reading → Result UtcTime Refusal
 reading_acceptance r = refused_or Err (reading_cases r) (Ok (utc_time (reading_index r) (reading_micros r)))
 
+-- the instant t and the time of the reading r
+abbrev pub parts : Instant → Reading → PhaseParts
+parts t r = record { tt = t; utc = utc_time (reading_index r) (reading_micros r) }
+
 -- the parts of an instant for phases, as the code has them
 abbrev pub parts_of : PhaseInstant → PhaseParts
-parts_of p = record { tt = p.tt; utc = utc_time (reading_index p.utc) (reading_micros p.utc) }
+parts_of p = parts p.tt p.utc
 
 -- parts that belong together: those of an instant for phases
 pub record Together (x : PhaseParts) : Type 0 where
@@ -41,7 +45,7 @@ pub record Together (x : PhaseParts) : Type 0 where
 
 -- the parts of a reading's instant for phases, or its refusal, by the answer of the conversion
 abbrev pub phase_by : Reading → Result Instant Refusal → Result PhaseParts Refusal
-phase_by r (Ok t) = Ok (record { tt = t; utc = utc_time (reading_index r) (reading_micros r) })
+phase_by r (Ok t) = Ok (parts t r)
 phase_by r (Err n) = Err n
 
 unfoldable pub phase_answer : Reading → Result PhaseParts Refusal

@@ -4,12 +4,12 @@
 ghost use Rattle.std.specs.Prelude.{◌≡◌, ◌*◌, ◌≤◌, ◌<◌};
 ghost use Rattle.instants.specs.Limits.{day_micros, days_covered};
 ghost use Rattle.utc.specs.Table.{tai_minus_utc, tt_minus_utc};
-ghost use Rattle.utc.specs.Readings.{reading, last_second};
+ghost use Rattle.utc.specs.Readings.{last_second};
 ghost use Rattle.utc.specs.Conversions.{tt_at, tt_of, day_begins, minute_of_day, reading_at, utc_of};
 ghost use Rattle.utc.specs.Inner.{LastBegun, covered_time, reading_acceptance, OnDay, reading_answer, phase_answer};
 
-use calendar::{InstantAnswer, SECOND_MICROS};
-use instants::{Acceptance, DAY_MICROS, Instant};
+use calendar::{Date, SECOND_MICROS, TimeOfDay};
+use instants::{DAY_MICROS, Instant, Refusal};
 
 // The days on which TAI - UTC became a second more, as indices from 1600-01-01 on: 1972-07-01 to 2017-01-01.
 const STEPS: [u64; 27] = [
@@ -40,7 +40,7 @@ const MINUTE_MICROS: u64 = 60000000;
 const DAY_MINUTES: u64 = 1440;
 
 // A date and a time of day as a clock of UTC shows them.
-#[derive(Drop)]
+#[derive(Clone, Copy)]
 pub struct Reading {
     pub year: u64,
     pub month: u64,
@@ -58,13 +58,6 @@ pub struct UtcTime {
     micros: u64,
 }
 
-// The time of an accepted reading, or its refusal number.
-#[derive(Drop)]
-enum UtcAnswer {
-    AtUtc(UtcTime),
-    NoUtc(u32),
-}
-
 // The parts of an instant for phases: one moment as Terrestrial Time and as UTC. They are private, and `phase_parts` alone makes them, of an accepted reading.
 #[derive(Clone, Copy)]
 pub struct PhaseParts {
@@ -72,33 +65,12 @@ pub struct PhaseParts {
     utc: UtcTime,
 }
 
-// The parts of a reading's instant for phases, or its refusal number.
-#[derive(Drop)]
-pub enum PhaseAnswer {
-    AtPhase(PhaseParts),
-    NoPhase(u32),
-}
-
-// The reading of an instant, or its refusal number.
-#[derive(Drop)]
-pub enum ReadingAnswer {
-    AtReading(Reading),
-    NoReading(u32),
-}
-
 // The place of the last step of a lent table that has begun by the day of index n, counted from 1, or 0: where they rise, how many have. Looks from the last one
 // back, since most days that are asked for are late.
 fn steps_begun(t: &[u64], n: u64) -> usize
     ensures { LastBegun t.now n result }
 {
-    let mut k = t.len();
-    while 0 < k {
-        if t[k - 1] <= n {
-            return k;
-        }
-        k = k - 1;
-    }
-    k
+    t.iter().rposition(|from| *from <= n).map_or(0, |k| k + 1)
 }
 
 // TAI - UTC on the day of index n, in seconds. The table is named once, and lent.
@@ -122,123 +94,12 @@ fn last_second(n: u64, hour: u64, minute: u64) -> u64
     59
 }
 
-// The time u of the day of index n, or refusal 19 or 20.
-fn covered(n: u64, u: u64) -> UtcAnswer
-    ensures { result ≡ covered_time n u }
-{
-    if n < FIRST_INDEX {
-        return UtcAnswer::NoUtc(19);
-    }
-    if EXPIRY_INDEX <= n {
-        return UtcAnswer::NoUtc(20);
-    }
-    UtcAnswer::AtUtc(UtcTime {
-        index: n,
-        micros: u,
-    })
-}
-
-// The time of an accepted reading, or refusal 1 to 7, 19 or 20.
-fn accept(
-    year: u64,
-    month: u64,
-    day: u64,
-    hour: u64,
-    minute: u64,
-    second: u64,
-    microsecond: u64,
-) -> UtcAnswer
-    ensures { result ≡ reading_acceptance (reading year month day hour minute second microsecond) }
-{
-    match calendar::accept_date(year, month, day) {
-        Acceptance::NotAccepted(n) => UtcAnswer::NoUtc(n),
-        Acceptance::Accepted(i) => {
-            match calendar::accept_time(
-                last_second(i, hour, minute),
-                hour,
-                minute,
-                second,
-                microsecond,
-            ) {
-                Acceptance::NotAccepted(k) => UtcAnswer::NoUtc(k),
-                Acceptance::Accepted(u) => covered(i, u),
-            }
-        }
-    }
-}
-
 // TT - UTC on the day of index n, in microseconds.
 fn tt_minus_utc(n: u64) -> u64
     ensures micros { result ≡ tt_minus_utc n }
     ensures most { result ≤ 69184000 }
 {
     tai_minus_utc(n) * SECOND_MICROS + TT_MINUS_TAI
-}
-
-// The instant of the time u of the UTC day of index n.
-fn tt_at(n: u64, u: u64) -> Instant
-    requires index { n < days_covered }
-    requires micros { u < 2 * day_micros }
-    ensures { result ≡ tt_at n u }
-{
-    let m = u + tt_minus_utc(n);
-    Instant {
-        day: instants::day_at_index(n + m / DAY_MICROS),
-        micros: m % DAY_MICROS,
-    }
-}
-
-// The instant of a reading, or refusal 1 to 7, 19 or 20.
-pub fn to_tt(
-    year: u64,
-    month: u64,
-    day: u64,
-    hour: u64,
-    minute: u64,
-    second: u64,
-    microsecond: u64,
-) -> InstantAnswer
-    ensures { result ≡ tt_of (reading year month day hour minute second microsecond) }
-{
-    match accept(year, month, day, hour, minute, second, microsecond) {
-        UtcAnswer::NoUtc(n) => InstantAnswer::NoInstant(n),
-        UtcAnswer::AtUtc(t) => InstantAnswer::AtInstant(tt_at(t.index, t.micros)),
-    }
-}
-
-// The parts of a reading's instant for phases, or refusal 1 to 7, 19 or 20.
-pub fn phase_parts(
-    year: u64,
-    month: u64,
-    day: u64,
-    hour: u64,
-    minute: u64,
-    second: u64,
-    microsecond: u64,
-) -> PhaseAnswer
-    ensures { result ≡ phase_answer (reading year month day hour minute second microsecond) }
-{
-    match accept(year, month, day, hour, minute, second, microsecond) {
-        UtcAnswer::NoUtc(n) => PhaseAnswer::NoPhase(n),
-        UtcAnswer::AtUtc(t) => PhaseAnswer::AtPhase(PhaseParts {
-            tt: tt_at(t.index, t.micros),
-            utc: t,
-        }),
-    }
-}
-
-// Their TT part.
-pub fn tt_part(p: PhaseParts) -> Instant
-    ensures { result ≡ p.tt }
-{
-    p.tt
-}
-
-// The microseconds of their UTC part, since the beginning of its day.
-pub fn utc_micros(p: PhaseParts) -> u64
-    ensures { result ≡ p.utc.micros }
-{
-    p.utc.micros
 }
 
 // The moment at which the UTC day of index n begins.
@@ -260,49 +121,137 @@ fn minute_of_day(u: u64) -> u64
     DAY_MINUTES - 1
 }
 
-// The reading u microseconds after the beginning of the UTC day of index n.
-fn reading_at(n: u64, u: u64) -> Reading
-    requires { n < days_covered }
-    ensures { result ≡ reading_at n u }
-{
-    let t = calendar::date_after(n);
-    let minute = minute_of_day(u);
-    Reading {
-        year: t.year,
-        month: t.month,
-        day: t.day,
-        hour: minute / 60,
-        minute: minute % 60,
-        second: u / SECOND_MICROS - minute * 60,
-        microsecond: u % SECOND_MICROS,
+impl UtcTime {
+    // This time, or refusal 19 or 20.
+    fn covered(self) -> Result<UtcTime, Refusal>
+        ensures { result ≡ covered_time self.index self.micros }
+    {
+        if self.index < FIRST_INDEX {
+            return Err(Refusal::UtcEarly);
+        }
+        if EXPIRY_INDEX <= self.index {
+            return Err(Refusal::UtcExpired);
+        }
+        Ok(self)
+    }
+
+    // Its instant.
+    fn tt(self) -> Instant
+        requires index { self.index < days_covered }
+        requires micros { self.micros < 2 * day_micros }
+        ensures { result ≡ tt_at self.index self.micros }
+    {
+        let m = self.micros + tt_minus_utc(self.index);
+        Instant {
+            day: instants::day_at_index(self.index + m / DAY_MICROS),
+            micros: m % DAY_MICROS,
+        }
+    }
+
+    // Its reading.
+    fn reading(self) -> Reading
+        requires { self.index < days_covered }
+        ensures { result ≡ reading_at self.index self.micros }
+    {
+        let date = calendar::date_after(self.index);
+        let minute = minute_of_day(self.micros);
+        Reading {
+            year: date.year,
+            month: date.month,
+            day: date.day,
+            hour: minute / 60,
+            minute: minute % 60,
+            second: self.micros / SECOND_MICROS - minute * 60,
+            microsecond: self.micros % SECOND_MICROS,
+        }
+    }
+}
+
+impl Reading {
+    // The time of an accepted reading, or refusal 1 to 7, 19 or 20.
+    fn accept(self) -> Result<UtcTime, Refusal>
+        ensures { result ≡ reading_acceptance self }
+    {
+        let date = Date {
+            year: self.year,
+            month: self.month,
+            day: self.day,
+        };
+        let time = TimeOfDay {
+            hour: self.hour,
+            minute: self.minute,
+            second: self.second,
+            microsecond: self.microsecond,
+        };
+        let index = date.accept()?;
+        let micros = time.accept(last_second(index, self.hour, self.minute))?;
+        UtcTime { index, micros }.covered()
+    }
+
+    // The instant of a reading, or refusal 1 to 7, 19 or 20.
+    pub fn to_tt(self) -> Result<Instant, Refusal>
+        ensures { result ≡ tt_of self }
+    {
+        let time = self.accept()?;
+        Ok(time.tt())
+    }
+
+    // The parts of a reading's instant for phases, or refusal 1 to 7, 19 or 20.
+    pub fn phase_parts(self) -> Result<PhaseParts, Refusal>
+        ensures { result ≡ phase_answer self }
+    {
+        let utc = self.accept()?;
+        Ok(PhaseParts { tt: utc.tt(), utc })
+    }
+}
+
+impl PhaseParts {
+    // Their TT part.
+    pub fn tt(self) -> Instant
+        ensures { result ≡ self.tt }
+    {
+        self.tt
+    }
+
+    // The microseconds of their UTC part, since the beginning of its day.
+    pub fn utc_micros(self) -> u64
+        ensures { result ≡ self.utc.micros }
+    {
+        self.utc.micros
     }
 }
 
 // The reading at the moment x of the TT day of index i, or refusal 19 or 20.
-fn reading_on(i: u64, x: u64) -> ReadingAnswer
+fn reading_on(i: u64, x: u64) -> Result<Reading, Refusal>
     requires { OnDay i x }
     ensures { result ≡ reading_answer i x }
 {
     if x < FIRST_MOMENT {
-        return ReadingAnswer::NoReading(19);
+        return Err(Refusal::UtcEarly);
     }
     if EXPIRY_MOMENT <= x {
-        return ReadingAnswer::NoReading(20);
+        return Err(Refusal::UtcExpired);
     }
     let begins = day_begins(i);
-    if x < begins {
+    let time = if x < begins {
         let eve = i - 1;
-        return ReadingAnswer::AtReading(reading_at(eve, x - day_begins(eve)));
-    }
-    ReadingAnswer::AtReading(reading_at(i, x - begins))
+        UtcTime {
+            index: eve,
+            micros: x - day_begins(eve),
+        }
+    } else {
+        UtcTime {
+            index: i,
+            micros: x - begins,
+        }
+    };
+    Ok(time.reading())
 }
 
 // The reading of an instant, or refusal 8, 9, 19 or 20.
-pub fn to_utc(day: i64, micros: u64) -> ReadingAnswer
-    ensures { result ≡ utc_of day micros }
+pub fn to_utc(t: Instant) -> Result<Reading, Refusal>
+    ensures { result ≡ utc_of t.day t.micros }
 {
-    match instants::accept(day, micros) {
-        Acceptance::NotAccepted(n) => ReadingAnswer::NoReading(n),
-        Acceptance::Accepted(i) => reading_on(i, instants::moment(i, micros)),
-    }
+    let index = t.accept()?;
+    reading_on(index, instants::moment(index, t.micros))
 }
