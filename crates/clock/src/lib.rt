@@ -4,7 +4,7 @@
 ghost use Rattle.std.specs.Prelude.{◌≡◌};
 ghost use Rattle.clock.specs.Words.{split_of, join_of};
 
-use instants::{Acceptance, INDEX_OFFSET, Instant};
+use instants::{INDEX_OFFSET, Instant, Refusal};
 
 // What one mark weighs in a time word: 2^37 microseconds, more than a day has.
 pub const MARK_UNIT: u64 = 1 << 37;
@@ -16,54 +16,36 @@ const MARKS: u64 = 8;
 const MARK_SHIFT: u64 = MARKS - INDEX_OFFSET % MARKS;
 
 // A day word, which is a day number, and a time word: microseconds with the day's mark above them.
-#[derive(Drop)]
+#[derive(Clone, Copy)]
 pub struct ClockWords {
     pub day: i64,
     pub time: u64,
 }
 
-// The words of an instant, or its refusal number.
-#[derive(Drop)]
-pub enum SplitAnswer {
-    Split(ClockWords),
-    NoSplit(u32),
-}
-
-// The instant of two words, or their refusal number.
-#[derive(Drop)]
-pub enum JoinAnswer {
-    Joined(Instant),
-    NoJoin(u32),
-}
-
 // The words of an instant, or refusal 8 or 9.
-pub fn split(day: i64, micros: u64) -> SplitAnswer
-    ensures { result ≡ split_of day micros }
+pub fn split(t: Instant) -> Result<ClockWords, Refusal>
+    ensures { result ≡ split_of t.day t.micros }
 {
-    match instants::accept(day, micros) {
-        Acceptance::NotAccepted(n) => SplitAnswer::NoSplit(n),
-        Acceptance::Accepted(i) => SplitAnswer::Split(ClockWords {
-            day: day,
-            time: micros + (i + MARK_SHIFT) % MARKS * MARK_UNIT,
-        }),
-    }
+    let i = t.accept()?;
+    Ok(ClockWords {
+        day: t.day,
+        time: t.micros + (i + MARK_SHIFT) % MARKS * MARK_UNIT,
+    })
 }
 
-// The instant of two words, or refusal 8, 9 or 10.
-pub fn join(day: i64, time: u64) -> JoinAnswer
-    ensures { result ≡ join_of day time }
-{
-    let micros = time % MARK_UNIT;
-    match instants::accept(day, micros) {
-        Acceptance::NotAccepted(n) => JoinAnswer::NoJoin(n),
-        Acceptance::Accepted(i) => {
-            if time / MARK_UNIT != (i + MARK_SHIFT) % MARKS {
-                return JoinAnswer::NoJoin(10);
-            }
-            JoinAnswer::Joined(Instant {
-                day: day,
-                micros: micros,
-            })
+impl ClockWords {
+    // The instant of two words, or refusal 8, 9 or 10.
+    pub fn join(self) -> Result<Instant, Refusal>
+        ensures { result ≡ join_of self.day self.time }
+    {
+        let t = Instant {
+            day: self.day,
+            micros: self.time % MARK_UNIT,
+        };
+        let i = t.accept()?;
+        if self.time / MARK_UNIT != (i + MARK_SHIFT) % MARKS {
+            return Err(Refusal::WordsDisagree);
         }
+        Ok(t)
     }
 }

@@ -1,10 +1,10 @@
 -- A record file: whole records, one behind the other, whose instants rise. Its records, or its refusal.
 use Rattle.std.specs.Prelude.{ℕ, zero, suc, ◌/◌, ◌%◌, Bool, true, not, ◌&&◌, ◌||◌, List, [], ◌∷◌, ◌++◌, eqb, ltb, length, drop, Result, Ok, Err}
-use Rattle.instants.specs.Refusals.{Case, case, refused_or}
+use Rattle.instants.specs.Refusals.{Case, case, refused_or, refusal_of}
 use Rattle.instants.specs.Moments.{moment_of}
 use Rattle.record.specs.declared.Record.{Record}
 use Rattle.record.specs.Format.{record_length}
-use Rattle.record.specs.Records.{read_of, is_record, read_refusal_of}
+use Rattle.record.specs.Records.{read_of}
 use Rattle.instants.specs.declared.refusal.Refusal.{Refusal}
 use Rattle.instants.specs.declared.refusal.Refusal.TheVariants.{FileLength, FileOrder}
 
@@ -56,7 +56,8 @@ length_cases n = case FileLength (wrong_length n) ∷ []
 -- those of answers: each that is no record has its own, so that the earliest decides
 abbrev pub reading_cases : List (Result Record Refusal) → List Case
 reading_cases [] = []
-reading_cases (x ∷ xs) = case (read_refusal_of x) (not (is_record x)) ∷ reading_cases xs
+reading_cases (Ok r ∷ xs) = reading_cases xs
+reading_cases (Err n ∷ xs) = case n true ∷ reading_cases xs
 
 -- that of the order of the instants
 abbrev pub order_cases : List Record → List Case
@@ -68,16 +69,10 @@ file_cases s = length_cases (length s) ++ (reading_cases (answers_in s) ++ order
 
 -- ---- the file
 
--- records in their order, or a refusal
-pub data FileAnswer : Type 0 where
-  IsFile : List Record → FileAnswer
-  NoFile : ℕ → FileAnswer
-
--- the file that s is: its records, or its refusal
-unfoldable pub file_of : List ℕ → FileAnswer
-file_of s = refused_or NoFile (file_cases s) (IsFile (records_among (answers_in s)))
+-- the file that s is: its records in their order, or its refusal
+unfoldable pub file_of : List ℕ → Result (List Record) Refusal
+file_of s = refused_or Err (file_cases s) (Ok (records_among (answers_in s)))
 
 -- the refusal number, 0 for none
-abbrev pub file_refusal_of : FileAnswer → ℕ
-file_refusal_of (IsFile rs) = 0
-file_refusal_of (NoFile n) = n
+abbrev pub file_refusal_of : Result (List Record) Refusal → ℕ
+file_refusal_of = refusal_of

@@ -2,16 +2,19 @@
 #![tactic(auto)]
 
 ghost use Rattle.std.specs.Prelude.{◌≡◌, true, ◌≤◌, length};
+ghost use Rattle.instants.specs.Refusals as refusals;
 ghost use Rattle.record.specs.Records.{read_of, is_record};
-ghost use Rattle.files.specs.Files.{wrong_length, file_of, file_refusal_of};
-ghost use Rattle.files.specs.Inner.{moment_in, next_moment, sound_after, answers_from, sound as soundFile, reading_refusal};
+ghost use Rattle.files.specs.Files.{wrong_length, file_cases};
+ghost use Rattle.files.specs.Inner.{moment_in, next_moment, sound_after, answers_from};
 
-use record::{LENGTH, ReadAnswer};
+use instants::Refusal;
+use record::LENGTH;
 
 // The most bytes of a file.
 const MOST_BYTES: usize = 65_520;
 
-// Past every moment: where a file ends.
+// Past every moment: where a file ends. It is a number, so that a walk over two files compares two numbers at each step; with an enum it would first
+// have to tell six kinds apart.
 pub const END: u64 = 0x4000_0000_0000_0000;
 
 // And past that: where the next record does not read or is not after the one before.
@@ -29,8 +32,7 @@ fn known_moment(s: &[u8]) -> u64
     requires { is_record (read_of s.now) ≡ true }
     ensures { result ≡ moment_in 0 (read_of s.now) }
 {
-    let r = record::known(s);
-    instants::moment_of(r.day, r.micros)
+    record::known(s).instant().moment()
 }
 
 // The same of any bytes: `UNSOUND` where they do not read as a record, or its moment is not after `last`.
@@ -49,64 +51,36 @@ fn moment_in(s: &[u8], last: u64) -> u64
 
 // The moment of the record at a place of s: `UNSOUND` if it does not read or is not after `last`, `END` where none is left. Where the records from there on
 // are known to be sound, none is tested.
-pub fn moment_at(s: &[u8], at: usize, last: u64, known: bool) -> u64
+pub fn moment_at<const KNOWN: bool>(s: &[u8], at: usize, last: u64) -> u64
     requires place { at ≤ length s.now }
-    requires known { known ≡ true → sound_after last (answers_from s.now at) ≡ true }
+    requires known { KNOWN ≡ true → sound_after last (answers_from s.now at) ≡ true }
     ensures { result ≡ next_moment last (answers_from s.now at) }
 {
     if s.len() - at < LENGTH {
         return END;
     }
-    if known {
+    if KNOWN {
         return known_moment(&s[at..]);
     }
     moment_in(&s[at..], last)
 }
 
-// All records read, and their instants rise.
-fn sound(s: &[u8]) -> bool
-    ensures { result ≡ soundFile s.now }
-{
-    let mut at: usize = 0;
-    let mut moment = moment_at(s, 0, 0, false);
-    while moment < END {
-        at += LENGTH;
-        moment = moment_at(s, at, moment, false);
-    }
-    moment == END
-}
-
-// The refusal of reading of the earliest record that has one, or 0.
-fn reading_refusal(s: &[u8]) -> u32
-    ensures { result ≡ reading_refusal s.now }
-{
-    let mut at: usize = 0;
-    while LENGTH <= s.len() - at {
-        match record::read(&s[at..]) {
-            ReadAnswer::NoRecord(n) => {
-                return n;
-            }
-            ReadAnswer::IsRecord(_) => {
-                at += LENGTH;
-            }
-        }
-    }
-    0
-}
-
-// The refusal of a file, or 0.
-pub fn refusal(s: &[u8]) -> u32
-    ensures { result ≡ file_refusal_of (file_of s.now) }
+// Refuses what is no file: the first record that does not read has the refusal, and only where all read the order of the instants is looked at.
+pub fn check(s: &[u8]) -> Result<(), Refusal>
+    ensures { result ≡ refusals.check (file_cases s.now) }
 {
     if wrong_length(s.len()) {
-        return 27;
+        return Err(Refusal::FileLength);
     }
-    if sound(s) {
-        return 0;
+    let mut rise = true;
+    let mut last: u64 = 0;
+    for bytes in s.chunks_exact(LENGTH) {
+        let moment = record::read(bytes)?.instant().moment();
+        rise &= last < moment;
+        last = moment;
     }
-    let first = reading_refusal(s);
-    if first != 0 {
-        return first;
+    if !rise {
+        return Err(Refusal::FileOrder);
     }
-    28
+    Ok(())
 }

@@ -1,18 +1,20 @@
 // Records of thirty bytes: one written, one read.
 #![tactic(auto)]
 
-ghost use Rattle.std.specs.Prelude.{◌≡◌, ◌≤◌, true, [], ◌∷◌, ◌++◌, length, pos, FitsSigned};
+ghost use Rattle.std.specs.Prelude.{◌≡◌, ◌≤◌, true, [], ◌∷◌, ◌++◌, length, pos, FitsSigned, Ok};
 ghost use Rattle.std.specs.Int.{w32};
 ghost use Rattle.bigendian.specs.Numbers.{twos_complement};
 ghost use Rattle.bigendian.specs.Fields.{field_at};
 ghost use Rattle.clock.specs.Words.{join_of};
 ghost use Rattle.record.specs.Format.{record_length, day_field, time_field, field_bytes, record_bytes};
-ghost use Rattle.record.specs.Inner.{head_refusal, form_refusal};
-ghost use Rattle.record.specs.Records.{write_refusal, written, record_of, read_of, is_record};
+ghost use Rattle.instants.specs.Instants.{instant};
+ghost use Rattle.instants.specs.Refusals.{check};
+ghost use Rattle.record.specs.Inner.{head_of, form_of};
+ghost use Rattle.record.specs.Records.{write_cases, written, record_of, read_of, is_record};
 
-use bigendian::{Field, field_at, put_field};
-use clock::{ClockWords, JoinAnswer, MARK_UNIT, SplitAnswer};
-use instants::Instant;
+use bigendian::Field;
+use clock::{ClockWords, MARK_UNIT};
+use instants::{Instant, Refusal};
 
 // The bytes of a record.
 pub const LENGTH: usize = 30;
@@ -53,105 +55,105 @@ pub struct Record {
     pub rate: i32,
 }
 
-// The record that bytes are, or the refusal number of reading them.
-#[derive(Drop)]
-pub enum ReadAnswer {
-    IsRecord(Record),
-    NoRecord(u32),
-}
-
 // A number's 32 bits.
 fn bits(x: i32) -> u64
     ensures { result ≡ twos_complement 4 x }
 {
-    bigendian::twos_complement(x as i64)
+    bigendian::twos_complement(i64::from(x))
 }
 
-// The fields before the check word, and two zeros in its place.
-fn fields(w: ClockWords, ut1: i32, lod: i32, rate: i32) -> [u8; LENGTH]
-    requires { FitsSigned w32 w.day }
-    ensures { result ≡ field_bytes w ut1 lod rate ++ 0 ∷ 0 ∷ [] }
-{
-    let mut s = [0u8; LENGTH];
-    put_field(&mut s, LENGTH_FIELD, LENGTH as u64);
-    put_field(&mut s, VERSION_FIELD, VERSION);
-    put_field(&mut s, DAY_FIELD, bigendian::twos_complement(w.day));
-    put_field(&mut s, TIME_FIELD, w.time);
-    put_field(&mut s, UT1_FIELD, bits(ut1));
-    put_field(&mut s, LOD_FIELD, bits(lod));
-    put_field(&mut s, RATE_FIELD, bits(rate));
-    s
-}
-
-// The thirty bytes: the check word is the wrapping negation of the sum of the others.
-fn record_bytes(w: ClockWords, ut1: i32, lod: i32, rate: i32) -> [u8; LENGTH]
-    requires { FitsSigned w32 w.day }
-    ensures { result ≡ record_bytes w ut1 lod rate }
-{
-    let mut s = fields(w, ut1, lod, rate);
-    let check = std::num::wrapping_sub_u16(0, bigendian::word_sum(&s, 14));
-    put_field(&mut s, CHECK_FIELD, check as u64);
-    s
-}
-
-// Writes a record at the front of the buffer and returns 0, or a refusal number with the buffer as it was.
-pub fn write(day: i64, micros: u64, ut1: i32, lod: i32, rate: i32, buffer: &mut [u8]) -> u32
-    ensures refusal { result ≡ write_refusal day micros (length buffer.old) }
-    ensures buffer { buffer.new ≡ written day micros ut1 lod rate buffer.old }
-{
-    match clock::split(day, micros) {
-        SplitAnswer::NoSplit(n) => n,
-        SplitAnswer::Split(w) => {
-            let n = LENGTH;
-            if buffer.len() < n {
-                return 12;
-            }
-            let s = record_bytes(w, ut1, lod, rate);
-            bigendian::copy(&s[..n], buffer);
-            0
+impl Record {
+    // Its instant.
+    pub fn instant(self) -> Instant
+        ensures { result ≡ instant self.day self.micros }
+    {
+        Instant {
+            day: self.day,
+            micros: self.micros,
         }
     }
+
+    // The fields before the check word, with the clock words w, and two zeros in the place of the check word.
+    fn fields(self, w: ClockWords) -> [u8; LENGTH]
+        requires { FitsSigned w32 w.day }
+        ensures { result ≡ field_bytes w self.ut1 self.lod self.rate ++ 0 ∷ 0 ∷ [] }
+    {
+        let mut s = [0u8; LENGTH];
+        LENGTH_FIELD.put(&mut s, LENGTH as u64);
+        VERSION_FIELD.put(&mut s, VERSION);
+        DAY_FIELD.put(&mut s, bigendian::twos_complement(w.day));
+        TIME_FIELD.put(&mut s, w.time);
+        UT1_FIELD.put(&mut s, bits(self.ut1));
+        LOD_FIELD.put(&mut s, bits(self.lod));
+        RATE_FIELD.put(&mut s, bits(self.rate));
+        s
+    }
+
+    // The thirty bytes: the check word is the wrapping negation of the sum of the others.
+    fn bytes(self, w: ClockWords) -> [u8; LENGTH]
+        requires { FitsSigned w32 w.day }
+        ensures { result ≡ record_bytes w self.ut1 self.lod self.rate }
+    {
+        let mut s = self.fields(w);
+        let check = bigendian::word_sum(&s, 14).wrapping_neg();
+        CHECK_FIELD.put(&mut s, u64::from(check));
+        s
+    }
+
+    // Writes the record at the front of the buffer, or leaves the buffer as it was beside a refusal.
+    pub fn write(self, buffer: &mut [u8]) -> Result<(), Refusal>
+        ensures refusal { result ≡ check (write_cases self.day self.micros (length buffer.old)) }
+        ensures buffer { buffer.new ≡ written self.day self.micros self.ut1 self.lod self.rate buffer.old }
+    {
+        let w = clock::split(self.instant())?;
+        if buffer.len() < LENGTH {
+            return Err(Refusal::BufferShort);
+        }
+        bigendian::copy(&self.bytes(w), buffer);
+        Ok(())
+    }
 }
 
-// The refusal of a record's head, or 0.
-pub fn head(s: &[u8]) -> u32
-    ensures { result ≡ head_refusal s.now }
+// Refuses the bytes of which the head is no record's.
+pub fn head(s: &[u8]) -> Result<(), Refusal>
+    ensures { result ≡ head_of s.now }
 {
     if s.len() < LENGTH {
-        return 12;
+        return Err(Refusal::BufferShort);
     }
-    if field_at(s, VERSION_FIELD) != VERSION {
-        return 14;
+    if VERSION_FIELD.read(s) != VERSION {
+        return Err(Refusal::RecordVersion);
     }
-    if field_at(s, LENGTH_FIELD) != LENGTH as u64 {
-        return 13;
+    if LENGTH_FIELD.read(s) != LENGTH as u64 {
+        return Err(Refusal::RecordLength);
     }
-    if field_at(s, ZERO_FIELD) != 0 {
-        return 15;
+    if ZERO_FIELD.read(s) != 0 {
+        return Err(Refusal::RecordZero);
     }
-    0
+    Ok(())
 }
 
-// The refusal of the bytes' form, or 0.
-fn form(s: &[u8]) -> u32
-    ensures { result ≡ form_refusal s.now }
+// Refuses the bytes that have not a record's form.
+fn form(s: &[u8]) -> Result<(), Refusal>
+    ensures { result ≡ form_of s.now }
 {
-    let n = head(s);
-    if n != 0 {
-        return n;
-    }
+    head(s)?;
     if bigendian::word_sum(s, WORDS) != 0 {
-        return 16;
+        return Err(Refusal::RecordSum);
     }
-    0
+    Ok(())
 }
 
 // The clock words in s, joined.
-fn join_words(s: &[u8]) -> JoinAnswer
+fn join_words(s: &[u8]) -> Result<Instant, Refusal>
     requires { record_length ≤ length s.now }
     ensures { result ≡ join_of (pos (field_at s.now day_field)) (field_at s.now time_field) }
 {
-    clock::join(field_at(s, DAY_FIELD) as i64, field_at(s, TIME_FIELD))
+    let w = ClockWords {
+        day: DAY_FIELD.read(s) as i64,
+        time: TIME_FIELD.read(s),
+    };
+    w.join()
 }
 
 // An instant with the three numbers in s.
@@ -162,58 +164,44 @@ fn record_of(t: Instant, s: &[u8]) -> Record
     Record {
         day: t.day,
         micros: t.micros,
-        ut1: bigendian::signed_of(field_at(s, UT1_FIELD)),
-        lod: bigendian::signed_of(field_at(s, LOD_FIELD)),
-        rate: bigendian::signed_of(field_at(s, RATE_FIELD)),
+        ut1: bigendian::signed_of(UT1_FIELD.read(s)),
+        lod: bigendian::signed_of(LOD_FIELD.read(s)),
+        rate: bigendian::signed_of(RATE_FIELD.read(s)),
     }
 }
 
 // The record that the front of s is, or the refusal of reading it.
-pub fn read(s: &[u8]) -> ReadAnswer
+pub fn read(s: &[u8]) -> Result<Record, Refusal>
     ensures { result ≡ read_of s.now }
 {
-    let n = form(s);
-    if n != 0 {
-        return ReadAnswer::NoRecord(n);
-    }
-    match join_words(s) {
-        JoinAnswer::NoJoin(n) => ReadAnswer::NoRecord(n),
-        JoinAnswer::Joined(t) => ReadAnswer::IsRecord(record_of(t, s)),
-    }
+    form(s)?;
+    let t = join_words(s)?;
+    Ok(record_of(t, s))
 }
 
 // Whether what has a record's head reads as a record.
 pub fn reads_behind(s: &[u8]) -> bool
-    requires { head_refusal s.now ≡ 0 }
+    requires { head_of s.now ≡ Ok tt }
     ensures { result ≡ is_record (read_of s.now) }
 {
-    if bigendian::word_sum(s, WORDS) != 0 {
-        return false;
-    }
-    match join_words(s) {
-        JoinAnswer::NoJoin(_) => false,
-        JoinAnswer::Joined(_) => true,
-    }
+    bigendian::word_sum(s, WORDS) == 0 && join_words(s).is_ok()
 }
 
 // Whether the front of s reads as a record. The head tells most bytes that do not.
 pub fn reads(s: &[u8]) -> bool
     ensures { result ≡ is_record (read_of s.now) }
 {
-    if head(s) != 0 {
-        return false;
-    }
-    reads_behind(s)
+    head(s).is_ok() && reads_behind(s)
 }
 
 // The record that the front of s is, where it is known to read as one.
 pub fn known(s: &[u8]) -> Record
     requires { is_record (read_of s.now) ≡ true }
-    ensures { ReadAnswer.IsRecord result ≡ read_of s.now }
+    ensures { Ok result ≡ read_of s.now }
 {
     let t = Instant {
-        day: field_at(s, DAY_FIELD) as i64,
-        micros: field_at(s, TIME_FIELD) % MARK_UNIT,
+        day: DAY_FIELD.read(s) as i64,
+        micros: TIME_FIELD.read(s) % MARK_UNIT,
     };
     record_of(t, s)
 }
