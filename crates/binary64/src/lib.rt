@@ -14,44 +14,43 @@ struct Units {
     negative: bool,
     digits: u64,
     shift: u64,
+    ghost few: { digits < 2 ^ 53 },
+    ghost near: { shift ≤ 2045 },
 }
 
-// A finite number in units. Only where the shift is 0 can the digits be fewer than 53.
-fn in_units(x: f64) -> Units
-    requires { float_is_finite x ≡ true }
-    ensures value { IsUnits x result.negative (result.digits * 2 ^ result.shift) }
-    ensures digits { result.digits < 2 ^ 53 }
-    ensures shift { result.shift ≤ 2045 }
-    ensures leading { 0 < result.shift → 2 ^ 52 ≤ result.digits }
-{
-    let bits = x.to_bits();
-    let negative = bits >= 1 << 63;
-    let digits = bits % (1 << 52);
-    let exponent = bits / (1 << 52) % (1 << 11);
-    if exponent == 0 {
-        Units {
-            negative,
-            digits,
-            shift: 0,
+impl Units {
+    // A finite number in units. Only where the shift is 0 can the digits be fewer than 53.
+    fn of(x: f64) -> Units
+        requires { float_is_finite x ≡ true }
+        ensures value { IsUnits x result.negative (result.digits * 2 ^ result.shift) }
+        ensures leading { 0 < result.shift → 2 ^ 52 ≤ result.digits }
+    {
+        let bits = x.to_bits();
+        let negative = bits >= 1 << 63;
+        let digits = bits % (1 << 52);
+        let exponent = bits / (1 << 52) % (1 << 11);
+        if exponent == 0 {
+            return Units {
+                negative,
+                digits,
+                shift: 0,
+            };
         }
-    } else {
         Units {
             negative,
             digits: (1 << 52) + digits,
             shift: exponent - 1,
         }
     }
-}
 
-// The number of that many units: of `digits` * 2^`shift`, and the sign.
-fn of_units(negative: bool, digits: u64, shift: u64) -> f64
-    requires digits { digits < 2 ^ 53 }
-    requires shift { shift ≤ 2045 }
-    ensures { result ≡ Ieee.round binary64 negative (digits * 2 ^ shift) (2 ^ 1074) }
-{
-    // 2^52 times 2^shift units
-    let scale = f64::from_bits((shift + 1) * (1 << 52));
-    digits as f64 * f64::EPSILON * if negative { -scale } else { scale }
+    // The number of these units, rounded once.
+    fn number(self) -> f64
+        ensures { result ≡ Ieee.round binary64 self.negative (self.digits * 2 ^ self.shift) (2 ^ 1074) }
+    {
+        // 2^52 times 2^shift units
+        let scale = f64::from_bits((self.shift + 1) * (1 << 52));
+        self.digits as f64 * f64::EPSILON * if self.negative { -scale } else { scale }
+    }
 }
 
 // The remainder of a * 2^k by b, a doubling at a time.
@@ -70,7 +69,7 @@ fn doubled(a: u64, k: u64, b: u64) -> u64
     r
 }
 
-// The remainder of x by y, exact and with x's sign: what C's fmod gives, in whole numbers.
+// The remainder of x by y, exact and with x's sign: what C's fmod gives. In whole numbers, since `x % y` would call a library of C.
 fn remainder(x: f64, y: f64) -> f64
     ensures { result ≡ Ieee.rem binary64 x y }
 {
@@ -79,13 +78,18 @@ fn remainder(x: f64, y: f64) -> f64
     } else if !y.is_finite() {
         x
     } else {
-        let a = in_units(x);
-        let b = in_units(y);
+        let a = Units::of(x);
+        let b = Units::of(y);
         if a.shift < b.shift {
-            of_units(a.negative, a.digits, a.shift)
+            a.number()
         } else {
-            let r = doubled(a.digits, a.shift - b.shift, b.digits);
-            of_units(a.negative, r, b.shift)
+            let digits = doubled(a.digits, a.shift - b.shift, b.digits);
+            Units {
+                negative: a.negative,
+                digits,
+                shift: b.shift,
+            }
+            .number()
         }
     }
 }

@@ -6,18 +6,21 @@ use Rattle.std.proofs.Common.{ℕ, ◌<◌, ap, sym, ◌∙◌, arith}
 use Rattle.binary64.proofs.WholeUnits.{rem_none, some_remainder, rem_infinite, some_digits, rem_small, rem_shifted}
 use Rattle.binary64.proofs.remainder.Goals as goal
 
-pub doubled-r-requires-clause-some : goal.doubled-r-requires-clause-some
+pub doubled-digits-requires-clause-some : goal.doubled-digits-requires-clause-some
 unfolding of_bits
-doubled-r-requires-clause-some c =
+doubled-digits-requires-clause-some c =
     let h = rw (c.is_finite.ensures.value, c.is_nan.ensures.value) at c.if-is_finite-is_nan.false in
-    some_digits _ _ _ _ (some_remainder c.args.x c.args.y h).2 c.in_units-b.ensures.value
+    some_digits _ _ _ _ (some_remainder c.args.x c.args.y h).2 c.of-b.ensures.value
 
-pub of_units-requires-else-a-b-clause-digits : goal.of_units-requires-else-a-b-clause-digits
+pub invariant_of-number : goal.invariant_of-number
 unfolding of_bits
-of_units-requires-else-a-b-clause-digits c =
+invariant_of-number c =
     let h = rw (c.is_finite.ensures.value, c.is_nan.ensures.value) at c.if-is_finite-is_nan.false in
-    let some : 0 < c.in_units-b.result.digits = some_digits _ _ _ _ (some_remainder c.args.x c.args.y h).2 c.in_units-b.ensures.value in
-    omega (arith, c.doubled-r.ensures, mod-lt (c.in_units-a.result.digits * 2 ^ (c.in_units-a.result.shift - c.in_units-b.result.shift)) some, c.in_units-b.ensures.digits)
+    let some : 0 < c.of-b.result.digits = some_digits _ _ _ _ (some_remainder c.args.x c.args.y h).2 c.of-b.ensures.value in
+    record {
+      few = omega (arith, c.doubled-digits.ensures, mod-lt (c.of-a.result.digits * 2 ^ (c.of-a.result.shift - c.of-b.result.shift)) some, c.of-b.result.few);
+      near = c.of-b.result.near;
+    }
 
 pub returns-then-is_finite-is_nan : goal.returns-then-is_finite-is_nan
 unfolding of_bits
@@ -32,17 +35,17 @@ returns-then-not-is_finite c =
 
 pub returns-then-a-b : goal.returns-then-a-b
 returns-then-a-b c =
-    let a = c.in_units-a in
-    let b = c.in_units-b in
-    c.of_units.ensures ∙ sym (rem_small c.args.x c.args.y _ _ _ _ _ _ a.ensures.digits c.if-a-b.true (b.ensures.leading (omega arith)) a.ensures.value b.ensures.value)
+    let a = c.of-a in
+    let b = c.of-b in
+    c.number.ensures ∙ sym (rem_small c.args.x c.args.y _ _ _ _ _ _ a.result.few c.if-a-b.true (b.ensures.leading (omega arith)) a.ensures.value b.ensures.value)
 
 pub returns-else-a-b : goal.returns-else-a-b
 unfolding of_bits
 returns-else-a-b c =
-    let a = c.in_units-a in
-    let b = c.in_units-b in
+    let a = c.of-a in
+    let b = c.of-b in
     let h = rw (c.is_finite.ensures.value, c.is_nan.ensures.value) at c.if-is_finite-is_nan.false in
     let some : 0 < b.result.digits = some_digits _ _ _ _ (some_remainder c.args.x c.args.y h).2 b.ensures.value in
-    c.of_units-else-a-b.ensures
-    ∙ ap (λ (z : ℕ). round binary64 a.result.negative (z * 2 ^ b.result.shift) (2 ^ 1074)) c.doubled-r.ensures
+    c.number-else-a-b.ensures
+    ∙ ap (λ (z : ℕ). round binary64 a.result.negative (z * 2 ^ b.result.shift) (2 ^ 1074)) c.doubled-digits.ensures
     ∙ sym (rem_shifted c.args.x c.args.y _ _ _ _ _ _ c.if-a-b.false some a.ensures.value b.ensures.value)
