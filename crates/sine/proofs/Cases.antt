@@ -56,23 +56,6 @@ module _ (a r v : ℕ) (s : ℤ) (e : v ≡ sine_quarter (r / one_part)) (up : a
   sine_by (third h k p) = down h ∙ ap neg_ℤ (half_low (a - 2 ^ 40) v (omega arith) (at p)) ∙ whole_high a h
   sine_by (fourth h k p) = let l : 2 ^ 40 < a = omega arith in down l ∙ ap neg_ℤ (half_high (a - 2 ^ 40) v (omega arith) (at (p ∙ omega arith))) ∙ whole_high a l
 
--- ---- the angle reduced: what is above a whole number of half turns, or what is left of the half turn
-
-pub reduced_low : (a : ℕ) → a < 2 ^ 41 → a % 2 ^ 40 ≤ 2 ^ 39 → Reduced a (a % 2 ^ 40)
-reduced_low a l h = by (dec_le (2 ^ 40) a) (dec_le a (2 ^ 40))
-  where
-    by : Dec (2 ^ 40 ≤ a) → Dec (a ≤ 2 ^ 40) → Reduced a (a % 2 ^ 40)
-    by (no p) q = first (omega (arith, p)) (omega (arith, p))
-    by (yes p) (yes q) = second (omega arith) q (omega arith)
-    by (yes p) (no q) = third (omega (arith, q)) (omega arith) (omega (arith, q))
-
-pub reduced_high : (a : ℕ) → a < 2 ^ 41 → 2 ^ 39 < a % 2 ^ 40 → Reduced a (2 ^ 40 - a % 2 ^ 40)
-reduced_high a l h = by (dec_le (2 ^ 40) a)
-  where
-    by : Dec (2 ^ 40 ≤ a) → Reduced a (2 ^ 40 - a % 2 ^ 40)
-    by (no p) = second (omega (arith, p)) (omega (arith, p)) (omega (arith, p))
-    by (yes p) = fourth (omega arith) (omega arith) (omega arith)
-
 -- ---- a quarter turn more is in the next quarter, and reduced to what is left of the quarter turn
 
 pub quarter_more : (a r : ℕ) → a < 2 ^ 41 → Reduced a r → Reduced ((a + 2 ^ 39) % 2 ^ 41) (2 ^ 39 - r)

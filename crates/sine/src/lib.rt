@@ -3,7 +3,7 @@
 #![tactic(auto)]
 
 ghost use Rattle.std.specs.Prelude.{◌≡◌, ◌-◌, ◌*◌, ◌/◌, ◌%◌, ◌^◌, ◌≤◌, ◌<◌, pos, neg_ℤ};
-ghost use Rattle.sine.specs.Ours.{quarter_parts, unit_squares, sine_quarter, our_sine, our_cosine};
+ghost use Rattle.sine.specs.Ours.{quarter_parts, sine_quarter, our_sine, our_cosine};
 ghost use Rattle.sine.specs.Inner.{Reduced};
 
 // A turn, in units of 2^-41 turn.
@@ -27,15 +27,6 @@ const ONE: u64 = 1 << 31;
 // A unit of 2^-31 in squares of such a part of one.
 const SQUARES: u64 = PARTS * PARTS / ONE;
 
-// The square of q parts of one, in units of 2^-31.
-fn square(q: u64) -> u64
-    requires { q ≤ quarter_parts }
-    ensures value { result ≡ q * q / unit_squares }
-    ensures most { result ≤ 2 ^ 31 }
-{
-    q * q / SQUARES
-}
-
 // c - z*p, in units of 2^-31.
 fn step(c: u64, z: u64, p: u64) -> u64
     requires square { z ≤ 2 ^ 31 }
@@ -47,23 +38,13 @@ fn step(c: u64, z: u64, p: u64) -> u64
     c - z * p / ONE
 }
 
-// q parts of p.
-fn scaled(q: u64, p: u64) -> u64
-    requires parts { q ≤ quarter_parts }
-    requires factor { p < 2 ^ 32 }
-    ensures value { result ≡ q * p / quarter_parts }
-    ensures most { result ≤ p }
-{
-    q * p / PARTS
-}
-
 // The sine of q parts of a quarter turn.
-fn sine_quarter(q: u64) -> u64
+#[tactic(auto, unfolding(crate::specs::Ours::sine_quarter, crate::specs::Ours::alternating))]
+fn sine_quarter(q: u64) -> u32
     requires { q ≤ quarter_parts }
-    ensures value { result ≡ sine_quarter q }
-    ensures below { result < 2 ^ 32 }
+    ensures { result ≡ sine_quarter q }
 {
-    let z = square(q);
+    let z = q * q / SQUARES;
     let p6 = step(122, z, 1);
     let p5 = step(7728, z, p6);
     let p4 = step(344545, z, p5);
@@ -71,7 +52,7 @@ fn sine_quarter(q: u64) -> u64
     let p2 = step(171138612, z, p3);
     let p1 = step(1387197337, z, p2);
     let p0 = step(3373259426, z, p1);
-    scaled(q, p0)
+    (q * p0 / PARTS) as u32
 }
 
 // An angle reduced to a quarter turn, where the sine is the same but for its sign. The functions that choose are small, so that they compile to no
@@ -82,16 +63,16 @@ fn reduced(a: u64) -> u64
     ensures most { result ≤ 2 ^ 39 }
 {
     let h = a % HALF;
-    if h <= QUARTER { h } else { HALF - h }
+    h.min(HALF - h)
 }
 
 // The number v, or minus v for an angle above a half turn.
-fn signed(a: u64, v: u64) -> i64
-    requires { v < 2 ^ 32 }
+fn signed(a: u64, v: u32) -> i64
     ensures first { a ≤ 2 ^ 40 → result ≡ pos v }
     ensures second { 2 ^ 40 < a → result ≡ neg_ℤ (pos v) }
 {
-    if a <= HALF { v as i64 } else { 0 - (v as i64) }
+    let v = i64::from(v);
+    if a <= HALF { v } else { -v }
 }
 
 // The sine of b.

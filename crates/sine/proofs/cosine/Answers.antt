@@ -9,5 +9,5 @@ pub returns : goal.returns
 unfolding our_cosine
 returns c =
     to_z-of_z {w = w64} (search rules)
-    ∙ sine_by _ _ c.sine_quarter.result c.signed.result c.sine_quarter.ensures.value c.signed.ensures.first c.signed.ensures.second
+    ∙ sine_by _ _ c.sine_quarter.result c.signed.result c.sine_quarter.ensures c.signed.ensures.first c.signed.ensures.second
     (quarter_more _ c.reduced.result (search rules) c.reduced.ensures.quarters)

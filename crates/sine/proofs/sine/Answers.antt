@@ -7,4 +7,4 @@ use Rattle.sine.proofs.sine.Goals as goal
 pub returns : goal.returns
 returns c =
     to_z-of_z {w = w64} (search rules)
-    ∙ sine_by _ c.reduced.result c.sine_quarter.result c.signed.result c.sine_quarter.ensures.value c.signed.ensures.first c.signed.ensures.second c.reduced.ensures.quarters
+    ∙ sine_by _ c.reduced.result c.sine_quarter.result c.signed.result c.sine_quarter.ensures c.signed.ensures.first c.signed.ensures.second c.reduced.ensures.quarters
