@@ -1,6 +1,7 @@
 -- The date's cases stand before those of the time, so the code may hand the date's refusal on.
 use Rattle.std.proofs.Common.{◌≡◌, refl, ◌∙◌, ap, sym, arith, rules, w64, ℕ, ℤ}
 use mir.Facts.{to_z-of_z}
+use Rattle.std.proofs.lemmas.Result.{err_from_is_err_and}
 use Rattle.instants.specs.Refusals.{refused_or}
 use Rattle.instants.specs.Instants.{instant, day_at_index}
 use Rattle.instants.proofs.FirstRefusal.{handed_on}
@@ -13,7 +14,7 @@ use Rattle.std.specs.Prelude.{Result, Ok, Err}
 use Rattle.instants.specs.declared.Instant.{Instant}
 use Rattle.instants.specs.declared.refusal.Refusal.{Refusal}
 
--- the matches of the code: the date's refusal comes first
+-- the answer by those of the acceptances: the date's refusal comes first
 abbrev on_day : ℕ → Result ℕ Refusal → Result Instant Refusal
 on_day i (Ok u) = Ok (instant (day_at_index i) u)
 on_day i (Err k) = Err k
@@ -29,15 +30,26 @@ matched y m d h n s u =
     ∙ ap (refused_or Err (date_cases y m d)) (handed_on Err (on_day (date_index (date y m d))) (λ k. refl) (time_cases 59 h n s u) _)
 
 pub day_at_index-requires : goal.day_at_index-requires
-day_at_index-requires c = omega (arith, (date_at _ _ _ _ (sym c.in-Accepted.ensures)).high)
+day_at_index-requires c =
+    let e : c.accept.result ≡ Ok c.in_ok-index.index = search rules in
+    omega (arith, (date_at _ _ _ _ (sym c.accept.ensures ∙ e)).high)
 
-pub returns-in-NotAccepted : goal.returns-in-NotAccepted
-returns-in-NotAccepted c = rw (← matched, ← c.in-NotAccepted.ensures) refl
+pub returns-in_err-index : goal.returns-in_err-index
+returns-in_err-index c =
+    let p = err_from_is_err_and c.from_residual.result c.from_residual.ensures.1 in
+    let e : c.accept.result ≡ Err c.in_err-index.field-0.0 = search rules in
+    rw (← matched, ← c.accept.ensures, e, p.1, p.2) refl
 
-pub returns-in-NotAccepted-accept_time : goal.returns-in-NotAccepted-accept_time
-returns-in-NotAccepted-accept_time c = rw (← matched, ← c.in-Accepted.ensures, ← c.in-NotAccepted-accept_time.ensures) refl
+pub returns-in_err-micros : goal.returns-in_err-micros
+returns-in_err-micros c =
+    let p = err_from_is_err_and c.from_residual-in_err-micros.result c.from_residual-in_err-micros.ensures.1 in
+    let e : c.accept.result ≡ Ok c.in_ok-index.index = search rules in
+    let f : c.accept-2.result ≡ Err c.in_err-micros.field-0.0 = search rules in
+    rw (← matched, ← c.accept.ensures, e, ← c.accept-2.ensures, f, p.1, p.2) refl
 
-pub returns-in-Accepted-accept_time : goal.returns-in-Accepted-accept_time
-returns-in-Accepted-accept_time c =
-    rw (← matched, ← c.in-Accepted.ensures, ← c.in-Accepted-accept_time.ensures)
-    (ap (λ (d : ℤ). Ok (instant d c.in-Accepted-accept_time.u)) (to_z-of_z {w = w64} (search rules) ∙ c.day_at_index.ensures))
+pub returns : goal.returns
+returns c =
+    let e : c.accept.result ≡ Ok c.in_ok-index.index = search rules in
+    let f : c.accept-2.result ≡ Ok c.in_ok-micros.micros = search rules in
+    rw (← matched, ← c.accept.ensures, e, ← c.accept-2.ensures, f)
+    (ap (λ (d : ℤ). Ok (instant d c.in_ok-micros.micros)) (to_z-of_z {w = w64} (search rules) ∙ c.day_at_index.ensures))

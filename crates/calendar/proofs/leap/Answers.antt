@@ -1,14 +1,15 @@
 -- The test of the code is the rule.
-use Rattle.std.proofs.Common.{ap, sym}
+use Rattle.std.proofs.Common.{◌≡◌, ◌∙◌, refl, Bool, true, false, cond}
+use mir.Val.{bool_byte}
 use Rattle.calendar.specs.Dates.{leap_year}
 use Rattle.calendar.specs.Inner.{leap_day}
-use Rattle.calendar.proofs.Months.{day}
 use Rattle.calendar.proofs.leap.Goals as goal
 
-pub returns-then-y-clause-days : goal.returns-then-y-clause-days
-unfolding leap_year leap_day
-returns-then-y-clause-days c = ap day (sym c.if-y.true)
+-- `u64::from` gives 1 and 0
+as_day : (b : Bool) → bool_byte b ≡ cond b 1 0
+as_day true = refl
+as_day false = refl
 
-pub returns-else-y-clause-days : goal.returns-else-y-clause-days
+pub returns-clause-days : goal.returns-clause-days
 unfolding leap_year leap_day
-returns-else-y-clause-days c = ap day (sym c.if-y.false)
+returns-clause-days c = c.from.ensures ∙ as_day _
