@@ -2,11 +2,9 @@
 -- the rest of the list decides. Assumes nothing.
 use Prim.Native.Nat.{ℕ, ◌<◌}
 use mathlib.Core.Path.{◌≡◌, refl, ap, sym, ◌∙◌}
-use mathlib.Core.Bool.{Bool, true, false, cond, ◌&&◌}
+use mathlib.Core.Bool.{Bool, true, false, cond}
 use mathlib.Core.List.{List, [], ◌∷◌, ◌++◌}
 use native.Mathlib.Omega.{arith}
-use lib.Dec.{T, ltb}
-use borrow.Author.Tests.{ltb-true}
 use Rattle.std.specs.Prelude.{Result, Ok, Err, ⊤}
 use Rattle.instants.specs.declared.refusal.Refusal.{Refusal}
 use Rattle.instants.specs.declared.refusal.Refusal.TheVariants.{Year, Month, DayOfMonth, Hour, Minute, Second, Microsecond, Day, Micros, WordsDisagree, Multiplier, BufferShort, RecordLength, RecordVersion, RecordZero, RecordSum, RunCount, RunStep, UtcEarly, UtcExpired, RowsLength, RowsVersion, RowsDay, RowsSize, RescueLength, DayOfYear, FileLength, FileOrder}
