@@ -3,7 +3,8 @@ ghost use Rattle.std.specs.Prelude.{◌≡◌};
 ghost use Rattle.calendar.specs.Dates.{day_of, date_of, day_number_or, day_number_of, date_refusal_of, year_or, month_or, day_of_month_or, year_of, month_of, day_of_month_of, day_refusal_of};
 ghost use Rattle.calendar.specs.Times.{instant_of, instant_day_or, instant_micros_or, instant_day_of, instant_micros_of, instant_refusal_of};
 
-use calendar::{DateAnswer, DayAnswer, InstantAnswer};
+use crate::number;
+use calendar::{Date, TimeOfDay};
 
 // The day number of a date, or nothing written. Returns the refusal number.
 #[unsafe(no_mangle)]
@@ -11,12 +12,12 @@ pub extern "C" fn enfys_day_of_date(year: u64, month: u64, day_of_month: u64, da
     ensures refusal { result ≡ date_refusal_of (day_of year month day_of_month) }
     ensures day { day.new ≡ day_number_or day.old (day_of year month day_of_month) }
 {
-    match calendar::day_of(year, month, day_of_month) {
-        DayAnswer::Day(d) => {
+    match (Date { year, month, day: day_of_month }).day_number() {
+        Ok(d) => {
             *day = d;
             0
         }
-        DayAnswer::NoDay(refusal) => refusal,
+        Err(refusal) => u32::from(refusal),
     }
 }
 
@@ -25,10 +26,7 @@ pub extern "C" fn enfys_day_of_date(year: u64, month: u64, day_of_month: u64, da
 pub extern "C" fn enfys_date_to_day(year: u64, month: u64, day: u64) -> i64
     ensures { result ≡ day_number_of (day_of year month day) }
 {
-    match calendar::day_of(year, month, day) {
-        DayAnswer::Day(d) => d,
-        DayAnswer::NoDay(_) => 0,
-    }
+    Date { year, month, day }.day_number().unwrap_or(0)
 }
 
 // The refusal number of a date.
@@ -36,10 +34,7 @@ pub extern "C" fn enfys_date_to_day(year: u64, month: u64, day: u64) -> i64
 pub extern "C" fn enfys_date_refusal(year: u64, month: u64, day: u64) -> u32
     ensures { result ≡ date_refusal_of (day_of year month day) }
 {
-    match calendar::day_of(year, month, day) {
-        DayAnswer::Day(_) => 0,
-        DayAnswer::NoDay(n) => n,
-    }
+    number(Date { year, month, day }.day_number())
 }
 
 // The date of a day number, or nothing written. Returns the refusal number.
@@ -56,13 +51,13 @@ pub extern "C" fn enfys_date_of_day(
     ensures day_of_month { day_of_month.new ≡ day_of_month_or day_of_month.old (date_of day) }
 {
     match calendar::date_of(day) {
-        DateAnswer::OnDate(t) => {
+        Ok(t) => {
             *year = t.year;
             *month = t.month;
             *day_of_month = t.day;
             0
         }
-        DateAnswer::NoDate(refusal) => refusal,
+        Err(refusal) => u32::from(refusal),
     }
 }
 
@@ -71,10 +66,7 @@ pub extern "C" fn enfys_date_of_day(
 pub extern "C" fn enfys_day_to_year(day: i64) -> u64
     ensures { result ≡ year_of (date_of day) }
 {
-    match calendar::date_of(day) {
-        DateAnswer::OnDate(t) => t.year,
-        DateAnswer::NoDate(_) => 0,
-    }
+    calendar::date_of(day).map_or(0, |t| t.year)
 }
 
 // The month of a day number.
@@ -82,10 +74,7 @@ pub extern "C" fn enfys_day_to_year(day: i64) -> u64
 pub extern "C" fn enfys_day_to_month(day: i64) -> u64
     ensures { result ≡ month_of (date_of day) }
 {
-    match calendar::date_of(day) {
-        DateAnswer::OnDate(t) => t.month,
-        DateAnswer::NoDate(_) => 0,
-    }
+    calendar::date_of(day).map_or(0, |t| t.month)
 }
 
 // The day of the month of a day number.
@@ -93,10 +82,7 @@ pub extern "C" fn enfys_day_to_month(day: i64) -> u64
 pub extern "C" fn enfys_day_to_day_of_month(day: i64) -> u64
     ensures { result ≡ day_of_month_of (date_of day) }
 {
-    match calendar::date_of(day) {
-        DateAnswer::OnDate(t) => t.day,
-        DateAnswer::NoDate(_) => 0,
-    }
+    calendar::date_of(day).map_or(0, |t| t.day)
 }
 
 // The refusal number of a day number.
@@ -104,10 +90,7 @@ pub extern "C" fn enfys_day_to_day_of_month(day: i64) -> u64
 pub extern "C" fn enfys_day_refusal(day: i64) -> u32
     ensures { result ≡ day_refusal_of (date_of day) }
 {
-    match calendar::date_of(day) {
-        DateAnswer::OnDate(_) => 0,
-        DateAnswer::NoDate(n) => n,
-    }
+    number(calendar::date_of(day))
 }
 
 // The instant of a date and time, or nothing written. Returns the refusal number.
@@ -127,14 +110,13 @@ pub extern "C" fn enfys_instant(
     ensures day { day.new ≡ instant_day_or day.old (instant_of year month day_of_month hour minute second microsecond) }
     ensures micros { micros.new ≡ instant_micros_or micros.old (instant_of year month day_of_month hour minute second microsecond) }
 {
-    match calendar::instant_of(year, month, day_of_month, hour, minute, second, microsecond) {
-        InstantAnswer::AtInstant(t) => {
-            let d = t.day;
-            *day = d;
+    match calendar::instant_of(Date { year, month, day: day_of_month }, TimeOfDay { hour, minute, second, microsecond }) {
+        Ok(t) => {
+            *day = t.day;
             *micros = t.micros;
             0
         }
-        InstantAnswer::NoInstant(refusal) => refusal,
+        Err(refusal) => u32::from(refusal),
     }
 }
 
@@ -151,10 +133,7 @@ pub extern "C" fn enfys_instant_day(
 ) -> i64
     ensures { result ≡ instant_day_of (instant_of year month day hour minute second microsecond) }
 {
-    match calendar::instant_of(year, month, day, hour, minute, second, microsecond) {
-        InstantAnswer::AtInstant(t) => t.day,
-        InstantAnswer::NoInstant(_) => 0,
-    }
+    calendar::instant_of(Date { year, month, day }, TimeOfDay { hour, minute, second, microsecond }).map_or(0, |t| t.day)
 }
 
 // The microseconds of a date and time, from 0 h on.
@@ -170,10 +149,7 @@ pub extern "C" fn enfys_instant_micros(
 ) -> u64
     ensures { result ≡ instant_micros_of (instant_of year month day hour minute second microsecond) }
 {
-    match calendar::instant_of(year, month, day, hour, minute, second, microsecond) {
-        InstantAnswer::AtInstant(t) => t.micros,
-        InstantAnswer::NoInstant(_) => 0,
-    }
+    calendar::instant_of(Date { year, month, day }, TimeOfDay { hour, minute, second, microsecond }).map_or(0, |t| t.micros)
 }
 
 // The refusal number of a date and time.
@@ -189,8 +165,5 @@ pub extern "C" fn enfys_instant_refusal(
 ) -> u32
     ensures { result ≡ instant_refusal_of (instant_of year month day hour minute second microsecond) }
 {
-    match calendar::instant_of(year, month, day, hour, minute, second, microsecond) {
-        InstantAnswer::AtInstant(_) => 0,
-        InstantAnswer::NoInstant(n) => n,
-    }
+    number(calendar::instant_of(Date { year, month, day }, TimeOfDay { hour, minute, second, microsecond }))
 }

@@ -2,7 +2,9 @@
 ghost use Rattle.std.specs.Prelude.{◌≡◌};
 ghost use Rattle.clock.specs.Words.{split_of, join_of, day_word_or, time_word_or, day_word_of, time_word_of, split_refusal_of, joined_day_or, joined_micros_or, joined_day_of, joined_micros_of, join_refusal_of};
 
-use clock::{JoinAnswer, SplitAnswer};
+use crate::number;
+use clock::ClockWords;
+use instants::Instant;
 
 // The two words of an instant, or nothing written. Returns the refusal number.
 #[unsafe(no_mangle)]
@@ -11,14 +13,13 @@ pub extern "C" fn enfys_split(day: i64, micros: u64, day_word: &mut i64, time_wo
     ensures day_word { day_word.new ≡ day_word_or day_word.old (split_of day micros) }
     ensures time_word { time_word.new ≡ time_word_or time_word.old (split_of day micros) }
 {
-    match clock::split(day, micros) {
-        SplitAnswer::Split(w) => {
-            let d = w.day;
-            *day_word = d;
+    match clock::split(Instant { day, micros }) {
+        Ok(w) => {
+            *day_word = w.day;
             *time_word = w.time;
             0
         }
-        SplitAnswer::NoSplit(refusal) => refusal,
+        Err(refusal) => u32::from(refusal),
     }
 }
 
@@ -27,10 +28,7 @@ pub extern "C" fn enfys_split(day: i64, micros: u64, day_word: &mut i64, time_wo
 pub extern "C" fn enfys_split_day_word(day: i64, micros: u64) -> i64
     ensures { result ≡ day_word_of (split_of day micros) }
 {
-    match clock::split(day, micros) {
-        SplitAnswer::Split(w) => w.day,
-        SplitAnswer::NoSplit(_) => 0,
-    }
+    clock::split(Instant { day, micros }).map_or(0, |w| w.day)
 }
 
 // The time word of an instant.
@@ -38,10 +36,7 @@ pub extern "C" fn enfys_split_day_word(day: i64, micros: u64) -> i64
 pub extern "C" fn enfys_split_time_word(day: i64, micros: u64) -> u64
     ensures { result ≡ time_word_of (split_of day micros) }
 {
-    match clock::split(day, micros) {
-        SplitAnswer::Split(w) => w.time,
-        SplitAnswer::NoSplit(_) => 0,
-    }
+    clock::split(Instant { day, micros }).map_or(0, |w| w.time)
 }
 
 // The refusal number of splitting an instant.
@@ -49,10 +44,7 @@ pub extern "C" fn enfys_split_time_word(day: i64, micros: u64) -> u64
 pub extern "C" fn enfys_split_refusal(day: i64, micros: u64) -> u32
     ensures { result ≡ split_refusal_of (split_of day micros) }
 {
-    match clock::split(day, micros) {
-        SplitAnswer::Split(_) => 0,
-        SplitAnswer::NoSplit(n) => n,
-    }
+    number(clock::split(Instant { day, micros }))
 }
 
 // The instant of two clock words, or nothing written. Returns the refusal number.
@@ -62,14 +54,13 @@ pub extern "C" fn enfys_join(day_word: i64, time_word: u64, day: &mut i64, micro
     ensures day { day.new ≡ joined_day_or day.old (join_of day_word time_word) }
     ensures micros { micros.new ≡ joined_micros_or micros.old (join_of day_word time_word) }
 {
-    match clock::join(day_word, time_word) {
-        JoinAnswer::Joined(t) => {
-            let d = t.day;
-            *day = d;
+    match (ClockWords { day: day_word, time: time_word }).join() {
+        Ok(t) => {
+            *day = t.day;
             *micros = t.micros;
             0
         }
-        JoinAnswer::NoJoin(refusal) => refusal,
+        Err(refusal) => u32::from(refusal),
     }
 }
 
@@ -78,10 +69,7 @@ pub extern "C" fn enfys_join(day_word: i64, time_word: u64, day: &mut i64, micro
 pub extern "C" fn enfys_join_day(day: i64, time: u64) -> i64
     ensures { result ≡ joined_day_of (join_of day time) }
 {
-    match clock::join(day, time) {
-        JoinAnswer::Joined(t) => t.day,
-        JoinAnswer::NoJoin(_) => 0,
-    }
+    ClockWords { day, time }.join().map_or(0, |t| t.day)
 }
 
 // The microseconds of two clock words.
@@ -89,10 +77,7 @@ pub extern "C" fn enfys_join_day(day: i64, time: u64) -> i64
 pub extern "C" fn enfys_join_micros(day: i64, time: u64) -> u64
     ensures { result ≡ joined_micros_of (join_of day time) }
 {
-    match clock::join(day, time) {
-        JoinAnswer::Joined(t) => t.micros,
-        JoinAnswer::NoJoin(_) => 0,
-    }
+    ClockWords { day, time }.join().map_or(0, |t| t.micros)
 }
 
 // The refusal number of two clock words.
@@ -100,8 +85,5 @@ pub extern "C" fn enfys_join_micros(day: i64, time: u64) -> u64
 pub extern "C" fn enfys_join_refusal(day: i64, time: u64) -> u32
     ensures { result ≡ join_refusal_of (join_of day time) }
 {
-    match clock::join(day, time) {
-        JoinAnswer::Joined(_) => 0,
-        JoinAnswer::NoJoin(n) => n,
-    }
+    number(ClockWords { day, time }.join())
 }

@@ -2,7 +2,7 @@
 ghost use Rattle.std.specs.Prelude.{◌≡◌, length};
 ghost use Rattle.compare.specs.Compare.{compare_of, list_after, entries_number_of, compare_refusal_of};
 
-use compare::CompareAnswer;
+use crate::number;
 
 // Writes the list of differences at the front of a buffer. Returns the refusal number.
 #[unsafe(no_mangle)]
@@ -10,7 +10,7 @@ pub extern "C" fn enfys_compare(s: &[u8], t: &[u8], list: &mut [u8]) -> u32
     ensures refusal { result ≡ compare_refusal_of (compare_of s.now t.now (length list.old)) }
     ensures list { list.new ≡ list_after s.now t.now list.old }
 {
-    compare::compare(s, t, list)
+    number(compare::compare(s, t, list))
 }
 
 // The number of entries, for a list of so many bytes.
@@ -18,10 +18,7 @@ pub extern "C" fn enfys_compare(s: &[u8], t: &[u8], list: &mut [u8]) -> u32
 pub extern "C" fn enfys_compare_entries(s: &[u8], t: &[u8], list: usize) -> u64
     ensures { result ≡ entries_number_of (compare_of s.now t.now list) }
 {
-    match compare::compare_of(s, t, list) {
-        CompareAnswer::Compared(n) => n,
-        CompareAnswer::NoComparison(_) => 0,
-    }
+    compare::compare_of(s, t, list).unwrap_or(0)
 }
 
 // The refusal number of a comparison.
@@ -29,8 +26,5 @@ pub extern "C" fn enfys_compare_entries(s: &[u8], t: &[u8], list: usize) -> u64
 pub extern "C" fn enfys_compare_refusal(s: &[u8], t: &[u8], list: usize) -> u32
     ensures { result ≡ compare_refusal_of (compare_of s.now t.now list) }
 {
-    match compare::compare_of(s, t, list) {
-        CompareAnswer::Compared(_) => 0,
-        CompareAnswer::NoComparison(n) => n,
-    }
+    number(compare::compare_of(s, t, list))
 }

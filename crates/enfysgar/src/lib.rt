@@ -13,3 +13,18 @@ mod schwiderski_calls;
 mod tide_calls;
 mod utc_calls;
 mod zonal_calls;
+
+ghost use Rattle.std.specs.Prelude.{◌≡◌};
+ghost use Rattle.instants.specs.Refusals.{refusal_of};
+
+use instants::Refusal;
+
+// The refusal number of an answer, or 0.
+fn number<T: Drop>(answer: Result<T, Refusal>) -> u32
+    ensures { result ≡ refusal_of answer }
+{
+    match answer {
+        Ok(_) => 0,
+        Err(refusal) => u32::from(refusal),
+    }
+}

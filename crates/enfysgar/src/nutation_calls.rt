@@ -3,7 +3,8 @@ ghost use Rattle.std.specs.Prelude.{◌≡◌};
 ghost use Rattle.row_places.specs.Lookup.{probes_of};
 ghost use Rattle.nutation.specs.Ours.{nutation_of, x_or, y_or, uncertainty_or, x_of, y_of, uncertainty_of, nutation_refusal_of};
 
-use nutation::NutationAnswer;
+use crate::number;
+use instants::Instant;
 
 // Both offsets and their uncertainty, or nothing written. Returns the refusal number.
 #[unsafe(no_mangle)]
@@ -19,16 +20,14 @@ pub extern "C" fn enfys_nutation(
     ensures y { y.new ≡ y_or y.old (nutation_of day micros) }
     ensures uncertainty { uncertainty.new ≡ uncertainty_or uncertainty.old (nutation_of day micros) }
 {
-    match nutation::nutation_of(day, micros) {
-        NutationAnswer::Nutation(o) => {
-            let ox = o.x;
-            let oy = o.y;
-            *x = ox;
-            *y = oy;
+    match nutation::nutation_of(Instant { day, micros }) {
+        Ok(o) => {
+            *x = o.x;
+            *y = o.y;
             *uncertainty = o.uncertainty;
             0
         }
-        NutationAnswer::NoNutation(refusal) => refusal,
+        Err(refusal) => u32::from(refusal),
     }
 }
 
@@ -37,10 +36,7 @@ pub extern "C" fn enfys_nutation(
 pub extern "C" fn enfys_nutation_x(day: i64, micros: u64) -> i64
     ensures { result ≡ x_of (nutation_of day micros) }
 {
-    match nutation::nutation_of(day, micros) {
-        NutationAnswer::Nutation(o) => o.x,
-        NutationAnswer::NoNutation(_) => 0,
-    }
+    nutation::nutation_of(Instant { day, micros }).map_or(0, |o| o.x)
 }
 
 // The offset Y.
@@ -48,10 +44,7 @@ pub extern "C" fn enfys_nutation_x(day: i64, micros: u64) -> i64
 pub extern "C" fn enfys_nutation_y(day: i64, micros: u64) -> i64
     ensures { result ≡ y_of (nutation_of day micros) }
 {
-    match nutation::nutation_of(day, micros) {
-        NutationAnswer::Nutation(o) => o.y,
-        NutationAnswer::NoNutation(_) => 0,
-    }
+    nutation::nutation_of(Instant { day, micros }).map_or(0, |o| o.y)
 }
 
 // The uncertainty of either offset, rounded up.
@@ -59,10 +52,7 @@ pub extern "C" fn enfys_nutation_y(day: i64, micros: u64) -> i64
 pub extern "C" fn enfys_nutation_uncertainty(day: i64, micros: u64) -> u64
     ensures { result ≡ uncertainty_of (nutation_of day micros) }
 {
-    match nutation::nutation_of(day, micros) {
-        NutationAnswer::Nutation(o) => o.uncertainty,
-        NutationAnswer::NoNutation(_) => 0,
-    }
+    nutation::nutation_of(Instant { day, micros }).map_or(0, |o| o.uncertainty)
 }
 
 // The refusal number of the offsets at an instant.
@@ -70,10 +60,7 @@ pub extern "C" fn enfys_nutation_uncertainty(day: i64, micros: u64) -> u64
 pub extern "C" fn enfys_nutation_refusal(day: i64, micros: u64) -> u32
     ensures { result ≡ nutation_refusal_of (nutation_of day micros) }
 {
-    match nutation::nutation_of(day, micros) {
-        NutationAnswer::Nutation(_) => 0,
-        NutationAnswer::NoNutation(n) => n,
-    }
+    number(nutation::nutation_of(Instant { day, micros }))
 }
 
 // The rows that the lookup probes at an instant, or 0 beside a refusal.
@@ -81,5 +68,5 @@ pub extern "C" fn enfys_nutation_refusal(day: i64, micros: u64) -> u32
 pub extern "C" fn enfys_nutation_probes(day: i64, micros: u64) -> u64
     ensures { result ≡ probes_of day micros }
 {
-    row_places::probes_of(day, micros)
+    row_places::probes_of(Instant { day, micros }).unwrap_or(0)
 }

@@ -3,7 +3,8 @@ ghost use Rattle.std.specs.Prelude.{◌≡◌};
 ghost use Rattle.row_places.specs.Lookup.{probes_rows_of};
 ghost use Rattle.nutation.specs.Ours.{nutation_rows_of, x_or, y_or, uncertainty_or, x_of, y_of, uncertainty_of, nutation_refusal_of};
 
-use nutation::NutationAnswer;
+use crate::number;
+use instants::Instant;
 
 // Both offsets of the rows and their uncertainty, or nothing written. Returns the refusal number.
 #[unsafe(no_mangle)]
@@ -20,16 +21,14 @@ pub extern "C" fn enfys_nutation_rows(
     ensures y { y.new ≡ y_or y.old (nutation_rows_of rows.now day micros) }
     ensures uncertainty { uncertainty.new ≡ uncertainty_or uncertainty.old (nutation_rows_of rows.now day micros) }
 {
-    match nutation::nutation_rows_of(rows, day, micros) {
-        NutationAnswer::Nutation(o) => {
-            let ox = o.x;
-            let oy = o.y;
-            *x = ox;
-            *y = oy;
+    match nutation::nutation_rows_of(rows, Instant { day, micros }) {
+        Ok(o) => {
+            *x = o.x;
+            *y = o.y;
             *uncertainty = o.uncertainty;
             0
         }
-        NutationAnswer::NoNutation(refusal) => refusal,
+        Err(refusal) => u32::from(refusal),
     }
 }
 
@@ -38,10 +37,7 @@ pub extern "C" fn enfys_nutation_rows(
 pub extern "C" fn enfys_nutation_rows_x(rows: &[u8], day: i64, micros: u64) -> i64
     ensures { result ≡ x_of (nutation_rows_of rows.now day micros) }
 {
-    match nutation::nutation_rows_of(rows, day, micros) {
-        NutationAnswer::Nutation(o) => o.x,
-        NutationAnswer::NoNutation(_) => 0,
-    }
+    nutation::nutation_rows_of(rows, Instant { day, micros }).map_or(0, |o| o.x)
 }
 
 // The offset Y of the rows.
@@ -49,10 +45,7 @@ pub extern "C" fn enfys_nutation_rows_x(rows: &[u8], day: i64, micros: u64) -> i
 pub extern "C" fn enfys_nutation_rows_y(rows: &[u8], day: i64, micros: u64) -> i64
     ensures { result ≡ y_of (nutation_rows_of rows.now day micros) }
 {
-    match nutation::nutation_rows_of(rows, day, micros) {
-        NutationAnswer::Nutation(o) => o.y,
-        NutationAnswer::NoNutation(_) => 0,
-    }
+    nutation::nutation_rows_of(rows, Instant { day, micros }).map_or(0, |o| o.y)
 }
 
 // The uncertainty of either offset of the rows, rounded up.
@@ -60,10 +53,7 @@ pub extern "C" fn enfys_nutation_rows_y(rows: &[u8], day: i64, micros: u64) -> i
 pub extern "C" fn enfys_nutation_rows_uncertainty(rows: &[u8], day: i64, micros: u64) -> u64
     ensures { result ≡ uncertainty_of (nutation_rows_of rows.now day micros) }
 {
-    match nutation::nutation_rows_of(rows, day, micros) {
-        NutationAnswer::Nutation(o) => o.uncertainty,
-        NutationAnswer::NoNutation(_) => 0,
-    }
+    nutation::nutation_rows_of(rows, Instant { day, micros }).map_or(0, |o| o.uncertainty)
 }
 
 // The refusal number of the rows and the instant.
@@ -71,10 +61,7 @@ pub extern "C" fn enfys_nutation_rows_uncertainty(rows: &[u8], day: i64, micros:
 pub extern "C" fn enfys_nutation_rows_refusal(rows: &[u8], day: i64, micros: u64) -> u32
     ensures { result ≡ nutation_refusal_of (nutation_rows_of rows.now day micros) }
 {
-    match nutation::nutation_rows_of(rows, day, micros) {
-        NutationAnswer::Nutation(_) => 0,
-        NutationAnswer::NoNutation(n) => n,
-    }
+    number(nutation::nutation_rows_of(rows, Instant { day, micros }))
 }
 
 // The rows that the lookup probes among these at an instant, or 0 beside a refusal.
@@ -82,5 +69,5 @@ pub extern "C" fn enfys_nutation_rows_refusal(rows: &[u8], day: i64, micros: u64
 pub extern "C" fn enfys_nutation_rows_probes(rows: &[u8], day: i64, micros: u64) -> u64
     ensures { result ≡ probes_rows_of rows.now day micros }
 {
-    row_places::probes_rows_of(rows, day, micros)
+    row_places::probes_rows_of(rows, Instant { day, micros }).unwrap_or(0)
 }

@@ -2,7 +2,8 @@
 ghost use Rattle.std.specs.Prelude.{◌≡◌, length};
 ghost use Rattle.record.specs.Records.{write_refusal, written, read_of, record_day_or, record_micros_or, record_ut1_or, record_lod_or, record_rate_or, record_day_of, record_micros_of, record_ut1_of, record_lod_of, record_rate_of, read_refusal_of};
 
-use record::ReadAnswer;
+use crate::number;
+use record::Record;
 
 // Writes a record into the first thirty bytes of the buffer. Returns the refusal number.
 #[unsafe(no_mangle)]
@@ -17,7 +18,7 @@ pub extern "C" fn enfys_record_write(
     ensures refusal { result ≡ write_refusal day micros (length buffer.old) }
     ensures buffer { buffer.new ≡ written day micros ut1 lod rate buffer.old }
 {
-    record::write(day, micros, ut1, lod, rate, buffer)
+    number(Record { day, micros, ut1, lod, rate }.write(buffer))
 }
 
 // The instant and the three numbers in a record, or nothing written. Returns the refusal number.
@@ -38,19 +39,15 @@ pub extern "C" fn enfys_record_read(
     ensures rate { rate.new ≡ record_rate_or rate.old (read_of s.now) }
 {
     match record::read(s) {
-        ReadAnswer::IsRecord(t) => {
-            let d = t.day;
-            let u = t.ut1;
-            let l = t.lod;
-            let r = t.rate;
-            *day = d;
+        Ok(t) => {
+            *day = t.day;
             *micros = t.micros;
-            *ut1 = u;
-            *lod = l;
-            *rate = r;
+            *ut1 = t.ut1;
+            *lod = t.lod;
+            *rate = t.rate;
             0
         }
-        ReadAnswer::NoRecord(refusal) => refusal,
+        Err(refusal) => u32::from(refusal),
     }
 }
 
@@ -59,10 +56,7 @@ pub extern "C" fn enfys_record_read(
 pub extern "C" fn enfys_record_day(s: &[u8]) -> i64
     ensures { result ≡ record_day_of (read_of s.now) }
 {
-    match record::read(s) {
-        ReadAnswer::IsRecord(t) => t.day,
-        ReadAnswer::NoRecord(_) => 0,
-    }
+    record::read(s).map_or(0, |t| t.day)
 }
 
 // The microseconds in a record.
@@ -70,10 +64,7 @@ pub extern "C" fn enfys_record_day(s: &[u8]) -> i64
 pub extern "C" fn enfys_record_micros(s: &[u8]) -> u64
     ensures { result ≡ record_micros_of (read_of s.now) }
 {
-    match record::read(s) {
-        ReadAnswer::IsRecord(t) => t.micros,
-        ReadAnswer::NoRecord(_) => 0,
-    }
+    record::read(s).map_or(0, |t| t.micros)
 }
 
 // The effect on UT1 in a record.
@@ -81,10 +72,7 @@ pub extern "C" fn enfys_record_micros(s: &[u8]) -> u64
 pub extern "C" fn enfys_record_ut1(s: &[u8]) -> i32
     ensures { result ≡ record_ut1_of (read_of s.now) }
 {
-    match record::read(s) {
-        ReadAnswer::IsRecord(t) => t.ut1,
-        ReadAnswer::NoRecord(_) => 0,
-    }
+    record::read(s).map_or(0, |t| t.ut1)
 }
 
 // The effect on the length of day in a record.
@@ -92,10 +80,7 @@ pub extern "C" fn enfys_record_ut1(s: &[u8]) -> i32
 pub extern "C" fn enfys_record_lod(s: &[u8]) -> i32
     ensures { result ≡ record_lod_of (read_of s.now) }
 {
-    match record::read(s) {
-        ReadAnswer::IsRecord(t) => t.lod,
-        ReadAnswer::NoRecord(_) => 0,
-    }
+    record::read(s).map_or(0, |t| t.lod)
 }
 
 // The effect on the rotation rate in a record.
@@ -103,10 +88,7 @@ pub extern "C" fn enfys_record_lod(s: &[u8]) -> i32
 pub extern "C" fn enfys_record_rate(s: &[u8]) -> i32
     ensures { result ≡ record_rate_of (read_of s.now) }
 {
-    match record::read(s) {
-        ReadAnswer::IsRecord(t) => t.rate,
-        ReadAnswer::NoRecord(_) => 0,
-    }
+    record::read(s).map_or(0, |t| t.rate)
 }
 
 // The refusal number of reading a record.
@@ -114,8 +96,5 @@ pub extern "C" fn enfys_record_rate(s: &[u8]) -> i32
 pub extern "C" fn enfys_record_refusal(s: &[u8]) -> u32
     ensures { result ≡ read_refusal_of (read_of s.now) }
 {
-    match record::read(s) {
-        ReadAnswer::IsRecord(_) => 0,
-        ReadAnswer::NoRecord(n) => n,
-    }
+    number(record::read(s))
 }

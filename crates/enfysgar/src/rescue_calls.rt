@@ -2,7 +2,7 @@
 ghost use Rattle.std.specs.Prelude.{◌≡◌, length};
 ghost use Rattle.rescue.specs.Rescue.{rescue_of, records_after, list_after, kept_of, ranges_number_of, passed_of, rescue_refusal_of};
 
-use rescue::RescueAnswer;
+use crate::number;
 
 // Writes the kept records and the list of passed ranges at the fronts of two buffers. Returns the refusal number.
 #[unsafe(no_mangle)]
@@ -11,7 +11,7 @@ pub extern "C" fn enfys_rescue(s: &[u8], records: &mut [u8], list: &mut [u8]) ->
     ensures records { records.new ≡ records_after s.now (length list.old) records.old }
     ensures list { list.new ≡ list_after s.now (length records.old) list.old }
 {
-    rescue::rescue(s, records, list)
+    number(rescue::rescue(s, records, list))
 }
 
 // The number of kept records, for buffers of so many bytes.
@@ -19,10 +19,7 @@ pub extern "C" fn enfys_rescue(s: &[u8], records: &mut [u8], list: &mut [u8]) ->
 pub extern "C" fn enfys_rescue_kept(s: &[u8], records: usize, list: usize) -> u64
     ensures { result ≡ kept_of (rescue_of s.now records list) }
 {
-    match rescue::rescue_of(s, records, list) {
-        RescueAnswer::Rescued(a) => a.kept,
-        RescueAnswer::NoRescue(_) => 0,
-    }
+    rescue::rescue_of(s, records, list).map_or(0, |a| a.kept)
 }
 
 // The number of passed ranges.
@@ -30,10 +27,7 @@ pub extern "C" fn enfys_rescue_kept(s: &[u8], records: usize, list: usize) -> u6
 pub extern "C" fn enfys_rescue_ranges(s: &[u8], records: usize, list: usize) -> u64
     ensures { result ≡ ranges_number_of (rescue_of s.now records list) }
 {
-    match rescue::rescue_of(s, records, list) {
-        RescueAnswer::Rescued(a) => a.ranges,
-        RescueAnswer::NoRescue(_) => 0,
-    }
+    rescue::rescue_of(s, records, list).map_or(0, |a| a.ranges)
 }
 
 // The number of passed bytes.
@@ -41,10 +35,7 @@ pub extern "C" fn enfys_rescue_ranges(s: &[u8], records: usize, list: usize) -> 
 pub extern "C" fn enfys_rescue_passed(s: &[u8], records: usize, list: usize) -> u64
     ensures { result ≡ passed_of (rescue_of s.now records list) }
 {
-    match rescue::rescue_of(s, records, list) {
-        RescueAnswer::Rescued(a) => a.passed,
-        RescueAnswer::NoRescue(_) => 0,
-    }
+    rescue::rescue_of(s, records, list).map_or(0, |a| a.passed)
 }
 
 // The refusal number of a rescue.
@@ -52,8 +43,5 @@ pub extern "C" fn enfys_rescue_passed(s: &[u8], records: usize, list: usize) -> 
 pub extern "C" fn enfys_rescue_refusal(s: &[u8], records: usize, list: usize) -> u32
     ensures { result ≡ rescue_refusal_of (rescue_of s.now records list) }
 {
-    match rescue::rescue_of(s, records, list) {
-        RescueAnswer::Rescued(_) => 0,
-        RescueAnswer::NoRescue(n) => n,
-    }
+    number(rescue::rescue_of(s, records, list))
 }

@@ -2,6 +2,9 @@
 ghost use Rattle.std.specs.Prelude.{◌≡◌, length};
 ghost use Rattle.run.specs.Run.{run_refusal, run_written};
 
+use crate::number;
+use instants::Instant;
+
 // Writes `count` records, `step` microseconds apart, into the front of the buffer. Returns the refusal number.
 #[unsafe(no_mangle)]
 pub extern "C" fn enfys_run_write(
@@ -14,5 +17,5 @@ pub extern "C" fn enfys_run_write(
     ensures refusal { result ≡ run_refusal day micros count step (length buffer.old) }
     ensures buffer { buffer.new ≡ run_written day micros count step buffer.old }
 {
-    run::write(day, micros, count, step, buffer)
+    number(run::write(Instant { day, micros }, count, step, buffer))
 }

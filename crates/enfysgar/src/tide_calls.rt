@@ -3,7 +3,10 @@ ghost use Rattle.std.specs.Prelude.{◌≡◌};
 ghost use Rattle.utc.specs.Readings.{reading};
 ghost use Rattle.tide.specs.Tidal.{tide_of, frequency_or, phase_or, frequency_of, phase_of, tide_refusal_of, doodson};
 
-use tide::{Doodson, TideAnswer};
+use crate::number;
+use utc::Reading;
+
+use tide::Doodson;
 
 // The frequency, in cycles per day, and the phase, in degrees, or nothing written. Returns the refusal number.
 #[unsafe(no_mangle)]
@@ -36,13 +39,13 @@ pub extern "C" fn enfys_tide(
         k5,
         k6,
     };
-    match tide::tide_of(year, month, day, hour, minute, second, microsecond, k) {
-        TideAnswer::Tide(x) => {
+    match tide::tide_of(Reading { year, month, day, hour, minute, second, microsecond }, k) {
+        Ok(x) => {
             *frequency = x.frequency;
             *phase = x.phase;
             0
         }
-        TideAnswer::NoTide(refusal) => refusal,
+        Err(refusal) => u32::from(refusal),
     }
 }
 
@@ -74,10 +77,7 @@ pub extern "C" fn enfys_tide_frequency(
         k5,
         k6,
     };
-    match tide::tide_of(year, month, day, hour, minute, second, microsecond, k) {
-        TideAnswer::Tide(x) => x.frequency,
-        TideAnswer::NoTide(_) => 0.0,
-    }
+    tide::tide_of(Reading { year, month, day, hour, minute, second, microsecond }, k).map_or(0.0, |x| x.frequency)
 }
 
 // The phase, in degrees.
@@ -108,10 +108,7 @@ pub extern "C" fn enfys_tide_phase(
         k5,
         k6,
     };
-    match tide::tide_of(year, month, day, hour, minute, second, microsecond, k) {
-        TideAnswer::Tide(x) => x.phase,
-        TideAnswer::NoTide(_) => 0.0,
-    }
+    tide::tide_of(Reading { year, month, day, hour, minute, second, microsecond }, k).map_or(0.0, |x| x.phase)
 }
 
 // The refusal number of a UTC reading and six multipliers.
@@ -141,8 +138,5 @@ pub extern "C" fn enfys_tide_refusal(
         k5,
         k6,
     };
-    match tide::tide_of(year, month, day, hour, minute, second, microsecond, k) {
-        TideAnswer::Tide(_) => 0,
-        TideAnswer::NoTide(n) => n,
-    }
+    number(tide::tide_of(Reading { year, month, day, hour, minute, second, microsecond }, k))
 }

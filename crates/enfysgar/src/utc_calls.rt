@@ -6,8 +6,9 @@ ghost use Rattle.utc.specs.Conversions.{tt_of, utc_of, reading_refusal_of};
 ghost use Rattle.utc.specs.Conversions.{reading_year_or, reading_month_or, reading_day_or, reading_hour_or, reading_minute_or, reading_second_or, reading_microsecond_or};
 ghost use Rattle.utc.specs.Conversions.{reading_year_of, reading_month_of, reading_day_of, reading_hour_of, reading_minute_of, reading_second_of, reading_microsecond_of};
 
-use calendar::InstantAnswer;
-use utc::ReadingAnswer;
+use crate::number;
+use instants::Instant;
+use utc::Reading;
 
 // The instant of a UTC reading, or nothing written. Returns the refusal number.
 #[unsafe(no_mangle)]
@@ -26,14 +27,13 @@ pub extern "C" fn enfys_utc_to_tt(
     ensures day { day.new ≡ instant_day_or day.old (tt_of (reading year month day_of_month hour minute second microsecond)) }
     ensures micros { micros.new ≡ instant_micros_or micros.old (tt_of (reading year month day_of_month hour minute second microsecond)) }
 {
-    match utc::to_tt(year, month, day_of_month, hour, minute, second, microsecond) {
-        InstantAnswer::AtInstant(t) => {
-            let d = t.day;
-            *day = d;
+    match (Reading { year, month, day: day_of_month, hour, minute, second, microsecond }).to_tt() {
+        Ok(t) => {
+            *day = t.day;
             *micros = t.micros;
             0
         }
-        InstantAnswer::NoInstant(refusal) => refusal,
+        Err(refusal) => u32::from(refusal),
     }
 }
 
@@ -50,10 +50,7 @@ pub extern "C" fn enfys_utc_to_tt_day(
 ) -> i64
     ensures { result ≡ instant_day_of (tt_of (reading year month day hour minute second microsecond)) }
 {
-    match utc::to_tt(year, month, day, hour, minute, second, microsecond) {
-        InstantAnswer::AtInstant(t) => t.day,
-        InstantAnswer::NoInstant(_) => 0,
-    }
+    Reading { year, month, day, hour, minute, second, microsecond }.to_tt().map_or(0, |t| t.day)
 }
 
 // The microseconds of a UTC reading's instant, from 0 h TT on.
@@ -69,10 +66,7 @@ pub extern "C" fn enfys_utc_to_tt_micros(
 ) -> u64
     ensures { result ≡ instant_micros_of (tt_of (reading year month day hour minute second microsecond)) }
 {
-    match utc::to_tt(year, month, day, hour, minute, second, microsecond) {
-        InstantAnswer::AtInstant(t) => t.micros,
-        InstantAnswer::NoInstant(_) => 0,
-    }
+    Reading { year, month, day, hour, minute, second, microsecond }.to_tt().map_or(0, |t| t.micros)
 }
 
 // The refusal number of a UTC reading.
@@ -88,10 +82,7 @@ pub extern "C" fn enfys_utc_to_tt_refusal(
 ) -> u32
     ensures { result ≡ instant_refusal_of (tt_of (reading year month day hour minute second microsecond)) }
 {
-    match utc::to_tt(year, month, day, hour, minute, second, microsecond) {
-        InstantAnswer::AtInstant(_) => 0,
-        InstantAnswer::NoInstant(n) => n,
-    }
+    number(Reading { year, month, day, hour, minute, second, microsecond }.to_tt())
 }
 
 // The UTC reading of an instant, or nothing written. Returns the refusal number.
@@ -116,8 +107,8 @@ pub extern "C" fn enfys_tt_to_utc(
     ensures second { second.new ≡ reading_second_or second.old (utc_of day micros) }
     ensures microsecond { microsecond.new ≡ reading_microsecond_or microsecond.old (utc_of day micros) }
 {
-    match utc::to_utc(day, micros) {
-        ReadingAnswer::AtReading(t) => {
+    match utc::to_utc(Instant { day, micros }) {
+        Ok(t) => {
             *year = t.year;
             *month = t.month;
             *day_of_month = t.day;
@@ -127,7 +118,7 @@ pub extern "C" fn enfys_tt_to_utc(
             *microsecond = t.microsecond;
             0
         }
-        ReadingAnswer::NoReading(refusal) => refusal,
+        Err(refusal) => u32::from(refusal),
     }
 }
 
@@ -136,10 +127,7 @@ pub extern "C" fn enfys_tt_to_utc(
 pub extern "C" fn enfys_tt_to_utc_year(day: i64, micros: u64) -> u64
     ensures { result ≡ reading_year_of (utc_of day micros) }
 {
-    match utc::to_utc(day, micros) {
-        ReadingAnswer::AtReading(t) => t.year,
-        ReadingAnswer::NoReading(_) => 0,
-    }
+    utc::to_utc(Instant { day, micros }).map_or(0, |t| t.year)
 }
 
 // The month of an instant's UTC reading.
@@ -147,10 +135,7 @@ pub extern "C" fn enfys_tt_to_utc_year(day: i64, micros: u64) -> u64
 pub extern "C" fn enfys_tt_to_utc_month(day: i64, micros: u64) -> u64
     ensures { result ≡ reading_month_of (utc_of day micros) }
 {
-    match utc::to_utc(day, micros) {
-        ReadingAnswer::AtReading(t) => t.month,
-        ReadingAnswer::NoReading(_) => 0,
-    }
+    utc::to_utc(Instant { day, micros }).map_or(0, |t| t.month)
 }
 
 // The day of the month of an instant's UTC reading.
@@ -158,10 +143,7 @@ pub extern "C" fn enfys_tt_to_utc_month(day: i64, micros: u64) -> u64
 pub extern "C" fn enfys_tt_to_utc_day_of_month(day: i64, micros: u64) -> u64
     ensures { result ≡ reading_day_of (utc_of day micros) }
 {
-    match utc::to_utc(day, micros) {
-        ReadingAnswer::AtReading(t) => t.day,
-        ReadingAnswer::NoReading(_) => 0,
-    }
+    utc::to_utc(Instant { day, micros }).map_or(0, |t| t.day)
 }
 
 // The hour of an instant's UTC reading.
@@ -169,10 +151,7 @@ pub extern "C" fn enfys_tt_to_utc_day_of_month(day: i64, micros: u64) -> u64
 pub extern "C" fn enfys_tt_to_utc_hour(day: i64, micros: u64) -> u64
     ensures { result ≡ reading_hour_of (utc_of day micros) }
 {
-    match utc::to_utc(day, micros) {
-        ReadingAnswer::AtReading(t) => t.hour,
-        ReadingAnswer::NoReading(_) => 0,
-    }
+    utc::to_utc(Instant { day, micros }).map_or(0, |t| t.hour)
 }
 
 // The minute of an instant's UTC reading.
@@ -180,10 +159,7 @@ pub extern "C" fn enfys_tt_to_utc_hour(day: i64, micros: u64) -> u64
 pub extern "C" fn enfys_tt_to_utc_minute(day: i64, micros: u64) -> u64
     ensures { result ≡ reading_minute_of (utc_of day micros) }
 {
-    match utc::to_utc(day, micros) {
-        ReadingAnswer::AtReading(t) => t.minute,
-        ReadingAnswer::NoReading(_) => 0,
-    }
+    utc::to_utc(Instant { day, micros }).map_or(0, |t| t.minute)
 }
 
 // The second of an instant's UTC reading.
@@ -191,10 +167,7 @@ pub extern "C" fn enfys_tt_to_utc_minute(day: i64, micros: u64) -> u64
 pub extern "C" fn enfys_tt_to_utc_second(day: i64, micros: u64) -> u64
     ensures { result ≡ reading_second_of (utc_of day micros) }
 {
-    match utc::to_utc(day, micros) {
-        ReadingAnswer::AtReading(t) => t.second,
-        ReadingAnswer::NoReading(_) => 0,
-    }
+    utc::to_utc(Instant { day, micros }).map_or(0, |t| t.second)
 }
 
 // The microsecond of an instant's UTC reading.
@@ -202,10 +175,7 @@ pub extern "C" fn enfys_tt_to_utc_second(day: i64, micros: u64) -> u64
 pub extern "C" fn enfys_tt_to_utc_microsecond(day: i64, micros: u64) -> u64
     ensures { result ≡ reading_microsecond_of (utc_of day micros) }
 {
-    match utc::to_utc(day, micros) {
-        ReadingAnswer::AtReading(t) => t.microsecond,
-        ReadingAnswer::NoReading(_) => 0,
-    }
+    utc::to_utc(Instant { day, micros }).map_or(0, |t| t.microsecond)
 }
 
 // The refusal number of an instant's UTC reading.
@@ -213,8 +183,5 @@ pub extern "C" fn enfys_tt_to_utc_microsecond(day: i64, micros: u64) -> u64
 pub extern "C" fn enfys_tt_to_utc_refusal(day: i64, micros: u64) -> u32
     ensures { result ≡ reading_refusal_of (utc_of day micros) }
 {
-    match utc::to_utc(day, micros) {
-        ReadingAnswer::AtReading(_) => 0,
-        ReadingAnswer::NoReading(n) => n,
-    }
+    number(utc::to_utc(Instant { day, micros }))
 }

@@ -2,7 +2,8 @@
 ghost use Rattle.std.specs.Prelude.{◌≡◌};
 ghost use Rattle.zonal.specs.Ours.{zonal_of, ut1_or, lod_or, rate_or, ut1_of, lod_of, rate_of, zonal_refusal_of};
 
-use zonal::ZonalAnswer;
+use crate::number;
+use instants::Instant;
 
 // The three corrections, or nothing written. Returns the refusal number.
 #[unsafe(no_mangle)]
@@ -18,17 +19,14 @@ pub extern "C" fn enfys_zonal(
     ensures lod { lod.new ≡ lod_or lod.old (zonal_of day micros) }
     ensures rate { rate.new ≡ rate_or rate.old (zonal_of day micros) }
 {
-    match zonal::zonal_of(day, micros) {
-        ZonalAnswer::Zonal(c) => {
-            let u = c.ut1;
-            let l = c.lod;
-            let r = c.rate;
-            *ut1 = u;
-            *lod = l;
-            *rate = r;
+    match zonal::zonal_of(Instant { day, micros }) {
+        Ok(c) => {
+            *ut1 = c.ut1;
+            *lod = c.lod;
+            *rate = c.rate;
             0
         }
-        ZonalAnswer::NoZonal(refusal) => refusal,
+        Err(refusal) => u32::from(refusal),
     }
 }
 
@@ -37,10 +35,7 @@ pub extern "C" fn enfys_zonal(
 pub extern "C" fn enfys_zonal_ut1(day: i64, micros: u64) -> i32
     ensures { result ≡ ut1_of (zonal_of day micros) }
 {
-    match zonal::zonal_of(day, micros) {
-        ZonalAnswer::Zonal(c) => c.ut1,
-        ZonalAnswer::NoZonal(_) => 0,
-    }
+    zonal::zonal_of(Instant { day, micros }).map_or(0, |c| c.ut1)
 }
 
 // The effect on the length of day, in picoseconds.
@@ -48,10 +43,7 @@ pub extern "C" fn enfys_zonal_ut1(day: i64, micros: u64) -> i32
 pub extern "C" fn enfys_zonal_lod(day: i64, micros: u64) -> i32
     ensures { result ≡ lod_of (zonal_of day micros) }
 {
-    match zonal::zonal_of(day, micros) {
-        ZonalAnswer::Zonal(c) => c.lod,
-        ZonalAnswer::NoZonal(_) => 0,
-    }
+    zonal::zonal_of(Instant { day, micros }).map_or(0, |c| c.lod)
 }
 
 // The effect on the rotation rate, in 10^-20 radian per second.
@@ -59,10 +51,7 @@ pub extern "C" fn enfys_zonal_lod(day: i64, micros: u64) -> i32
 pub extern "C" fn enfys_zonal_rate(day: i64, micros: u64) -> i32
     ensures { result ≡ rate_of (zonal_of day micros) }
 {
-    match zonal::zonal_of(day, micros) {
-        ZonalAnswer::Zonal(c) => c.rate,
-        ZonalAnswer::NoZonal(_) => 0,
-    }
+    zonal::zonal_of(Instant { day, micros }).map_or(0, |c| c.rate)
 }
 
 // The refusal number of the corrections at an instant.
@@ -70,8 +59,5 @@ pub extern "C" fn enfys_zonal_rate(day: i64, micros: u64) -> i32
 pub extern "C" fn enfys_zonal_refusal(day: i64, micros: u64) -> u32
     ensures { result ≡ zonal_refusal_of (zonal_of day micros) }
 {
-    match zonal::zonal_of(day, micros) {
-        ZonalAnswer::Zonal(_) => 0,
-        ZonalAnswer::NoZonal(n) => n,
-    }
+    number(zonal::zonal_of(Instant { day, micros }))
 }
