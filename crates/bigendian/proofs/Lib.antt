@@ -1,5 +1,5 @@
 -- Scanning: a number and a sum of words, one step on, for number_at and word_sum. Puts: the bytes of a number put one by one, for put.
--- Numbers: bytes and numbers are inverse. Signs: two's complement, for twos_complement and signed_of. Fields: a number in a field, read back and
+-- Numbers: bytes and numbers are inverse. Signs: two's complement. Fields: a number in a field, read back and
 -- written again. Sums: two lists that differ in one word. Buffers: bytes at the front of a buffer. Filling: a buffer filled piece by piece.
 pub mod Scanning
 pub mod Puts

@@ -9,21 +9,34 @@ ghost use Rattle.bigendian.specs.Buffers.{at_front};
 ghost use Rattle.bigendian.specs.Inner.{with_field};
 
 // The place of a number in a byte form: its first byte, and its number of bytes.
-#[derive(Drop)]
+#[derive(Clone, Copy)]
 pub struct Field {
     pub at: usize,
     pub size: usize,
 }
 
+impl Field {
+    // The number in the field of s.
+    pub fn read(self, s: &[u8]) -> u64
+        requires within { self.at + self.size ≤ length s.now }
+        requires few { self.size ≤ 8 }
+        ensures number { result ≡ field_at s.now self }
+        ensures below { result < 256 ^ self.size }
+    {
+        number_at(s, self.at, self.size)
+    }
+
+    // Puts a number into the field of s.
+    pub fn put(self, s: &mut [u8], n: u64)
+        requires { self.at + self.size ≤ length s.old }
+        ensures { s.new ≡ with_field s.old self n }
+    {
+        put(s, self.at, self.size, n);
+    }
+}
+
 // The number of values of a byte.
 const BASE: u64 = 0x100;
-
-// A byte as a number.
-fn wide(x: u8) -> u64
-    ensures { result ≡ x }
-{
-    x as u64
-}
 
 // The number of the `size` bytes of s at the place `at`.
 pub fn number_at(s: &[u8], at: usize, size: usize) -> u64
@@ -33,22 +46,10 @@ pub fn number_at(s: &[u8], at: usize, size: usize) -> u64
     ensures below { result < 256 ^ size }
 {
     let mut value: u64 = 0;
-    let mut k: usize = 0;
-    while k < size {
-        value = value * BASE + wide(s[at + k]);
-        k += 1;
+    for x in &s[at..at + size] {
+        value = value * BASE + u64::from(*x);
     }
     value
-}
-
-// The number in a field of s.
-pub fn field_at(s: &[u8], f: Field) -> u64
-    requires within { f.at + f.size ≤ length s.now }
-    requires few { f.size ≤ 8 }
-    ensures number { result ≡ field_at s.now f }
-    ensures below { result < 256 ^ f.size }
-{
-    number_at(s, f.at, f.size)
 }
 
 // Puts the `size` lowest bytes of n at the place `at` of s.
@@ -57,20 +58,11 @@ pub fn put(s: &mut [u8], at: usize, size: usize, n: u64)
     ensures { s.new ≡ take at s.old ++ (bytes_of size n ++ drop (at + size) s.old) }
 {
     let mut rest = n;
-    let mut k = size;
-    while 0 < k {
-        k -= 1;
+    // By places: of what is written through `iter_mut().rev()` a proof knows the length alone.
+    for k in (0..size).rev() {
         s[at + k] = (rest % BASE) as u8;
         rest = rest / BASE;
     }
-}
-
-// Puts a number into a field of s.
-pub fn put_field(s: &mut [u8], f: Field, n: u64)
-    requires { f.at + f.size ≤ length s.old }
-    ensures { s.new ≡ with_field s.old f n }
-{
-    put(s, f.at, f.size, n);
 }
 
 // The first `count` words of s, of 16 bits each, added with wrapping.
@@ -79,10 +71,8 @@ pub fn word_sum(s: &[u8], count: usize) -> u16
     ensures { result ≡ word_sum s.now count % 0x1_0000 }
 {
     let mut sum: u16 = 0;
-    let mut k: usize = 0;
-    while k < count {
-        sum = std::num::wrapping_add_u16(sum, number_at(s, 2 * k, 2) as u16);
-        k += 1;
+    for word in s[..2 * count].chunks_exact(2) {
+        sum = sum.wrapping_add(number_at(word, 0, 2) as u16);
     }
     sum
 }
@@ -93,20 +83,14 @@ pub fn twos_complement(x: i64) -> u64
     ensures number { result ≡ twos_complement 4 x }
     ensures below { result < 256 ^ 4 }
 {
-    if x < 0 {
-        return (x + 0x1_0000_0000) as u64;
-    }
-    x as u64
+    u64::from((x as i32).cast_unsigned())
 }
 
 // A number in two's complement of 64 bits.
 pub fn twos_complement_64(x: i64) -> u64
     ensures { result ≡ twos_complement 8 x }
 {
-    if x < 0 {
-        return 0xFFFF_FFFF_FFFF_FFFF - ((-1 - x) as u64);
-    }
-    x as u64
+    x.cast_unsigned()
 }
 
 // The number whose two's complement in 32 bits is n.
@@ -114,10 +98,7 @@ pub fn signed_of(n: u64) -> i32
     requires { n < 256 ^ 4 }
     ensures { result ≡ signed_of 4 n }
 {
-    if n < 0x8000_0000 {
-        return n as i32;
-    }
-    ((n as i64) - 0x1_0000_0000) as i32
+    (n as u32).cast_signed()
 }
 
 // Copies s over the front of a buffer, and returns its length.
