@@ -2,8 +2,8 @@
 // Derived from the IERS routine FCNNUT; not IERS Conventions software (NOTICE, docs/DIFFERENCES.md).
 #![tactic(auto)]
 
-ghost use Rattle.std.specs.Prelude.{◌≡◌, ltb, nat_abs};
-ghost use Rattle.rows.specs.Table.{largest, day_out, number_out};
+ghost use Rattle.std.specs.Prelude.{◌≡◌};
+ghost use Rattle.rows.specs.Table.{day_out, number_out};
 ghost use Rattle.rows.specs.Places.{row_moment};
 ghost use Rattle.rows.specs.Inner.{AcceptedRow};
 
@@ -30,48 +30,31 @@ const FIRST_DAY: u64 = 15020;
 
 const LAST_DAY: u64 = 88433;
 
-const LARGEST: i64 = 100000;
+const LARGEST: u64 = 100000;
 
-// The moment of 0 h of a row's day.
-pub fn row_moment(r: Row) -> u64
-    requires { AcceptedRow r }
-    ensures { result ≡ row_moment r }
-{
-    instants::moment(r.day + INDEX_OFFSET, 0)
-}
+impl Row {
+    // The moment of 0 h of the row's day.
+    pub fn moment(self) -> u64
+        requires { AcceptedRow self }
+        ensures { result ≡ row_moment self }
+    {
+        instants::moment(self.day + INDEX_OFFSET, 0)
+    }
 
-// A row's day is out of its limits.
-pub fn day_out(r: Row) -> bool
-    ensures { result ≡ day_out r }
-{
-    if r.day < FIRST_DAY {
-        return true;
+    // The day is out of its limits.
+    pub fn day_out(self) -> bool
+        ensures { result ≡ day_out self }
+    {
+        self.day < FIRST_DAY || LAST_DAY < self.day
     }
-    LAST_DAY < r.day
-}
 
-// A number is further from 0 than the largest.
-fn far(x: i64) -> bool
-    ensures { result ≡ ltb largest (nat_abs x) }
-{
-    if x < 0 - LARGEST {
-        return true;
+    // An amplitude or the uncertainty is out of its limits.
+    pub fn number_out(self) -> bool
+        ensures { result ≡ number_out self }
+    {
+        LARGEST < self.xc.unsigned_abs()
+            || LARGEST < self.xs.unsigned_abs()
+            || self.uncertainty < 1
+            || LARGEST < self.uncertainty
     }
-    LARGEST < x
-}
-
-// A row's amplitude or uncertainty is out of its limits.
-pub fn number_out(r: Row) -> bool
-    ensures { result ≡ number_out r }
-{
-    if far(r.xc) {
-        return true;
-    }
-    if far(r.xs) {
-        return true;
-    }
-    if r.uncertainty < 1 {
-        return true;
-    }
-    (LARGEST as u64) < r.uncertainty
 }
