@@ -1,4 +1,3 @@
--- The program's line. Read Lines; Grammar says the same without a scan, for a promise; Inner serves the code's own contracts.
+-- The program's line. Read Lines; Grammar says the same without a scan, for a promise.
 pub mod Lines
 pub mod Grammar
-pub mod Inner

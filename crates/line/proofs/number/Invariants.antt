@@ -1,13 +1,10 @@
--- What the definition reads from the start is what it reads from the byte in hand on, where `count` digits that write `value` came before. At most ten
--- digits keep the value small.
-use Rattle.std.proofs.Common.{length, ◌-◌, ◌≡◌, drop, ◌^◌, ◌<◌, ◌≤◌}
-use Rattle.line.specs.Lines.{read_number}
-use Rattle.line.proofs.Scanning.{number_from}
+-- The value is that of the digits so far, and below a power of ten.
+use Rattle.std.proofs.Common.{◌≡◌, ◌^◌, ◌<◌, take}
+use Rattle.line.specs.Lines.{decimal}
 use Rattle.line.proofs.number.Given as goal
 
-abbrev pub invariant-loop-i : goal.invariant-loop-i
-invariant-loop-i l =
-    (l.count ≤ 10) × (l.value < 10 ^ l.count) × (number_from l.end l.count l.value (drop l.i l.s) ≡ read_number l.end (drop l.from l.s))
-
-abbrev pub decreases-loop-i : goal.decreases-loop-i
-decreases-loop-i l = length l.s - l.i
+abbrev pub invariant-loop-x : goal.invariant-loop-x
+invariant-loop-x l = record {
+  below : l.value < 10 ^ l.x-index;
+  value : l.value ≡ decimal (take l.x-index l.s);
+}
