@@ -12,7 +12,13 @@ pub extern "C" fn enfys_day_of_date(year: u64, month: u64, day_of_month: u64, da
     ensures refusal { result ≡ date_refusal_of (day_of year month day_of_month) }
     ensures day { day.new ≡ day_number_or day.old (day_of year month day_of_month) }
 {
-    match (Date { year, month, day: day_of_month }).day_number() {
+    match (Date {
+        year,
+        month,
+        day: day_of_month,
+    })
+    .day_number()
+    {
         Ok(d) => {
             *day = d;
             0
@@ -110,7 +116,19 @@ pub extern "C" fn enfys_instant(
     ensures day { day.new ≡ instant_day_or day.old (instant_of year month day_of_month hour minute second microsecond) }
     ensures micros { micros.new ≡ instant_micros_or micros.old (instant_of year month day_of_month hour minute second microsecond) }
 {
-    match calendar::instant_of(Date { year, month, day: day_of_month }, TimeOfDay { hour, minute, second, microsecond }) {
+    match calendar::instant_of(
+        Date {
+            year,
+            month,
+            day: day_of_month,
+        },
+        TimeOfDay {
+            hour,
+            minute,
+            second,
+            microsecond,
+        },
+    ) {
         Ok(t) => {
             *day = t.day;
             *micros = t.micros;
@@ -133,7 +151,16 @@ pub extern "C" fn enfys_instant_day(
 ) -> i64
     ensures { result ≡ instant_day_of (instant_of year month day hour minute second microsecond) }
 {
-    calendar::instant_of(Date { year, month, day }, TimeOfDay { hour, minute, second, microsecond }).map_or(0, |t| t.day)
+    calendar::instant_of(
+        Date { year, month, day },
+        TimeOfDay {
+            hour,
+            minute,
+            second,
+            microsecond,
+        },
+    )
+    .map_or(0, |t| t.day)
 }
 
 // The microseconds of a date and time, from 0 h on.
@@ -149,7 +176,16 @@ pub extern "C" fn enfys_instant_micros(
 ) -> u64
     ensures { result ≡ instant_micros_of (instant_of year month day hour minute second microsecond) }
 {
-    calendar::instant_of(Date { year, month, day }, TimeOfDay { hour, minute, second, microsecond }).map_or(0, |t| t.micros)
+    calendar::instant_of(
+        Date { year, month, day },
+        TimeOfDay {
+            hour,
+            minute,
+            second,
+            microsecond,
+        },
+    )
+    .map_or(0, |t| t.micros)
 }
 
 // The refusal number of a date and time.
@@ -165,5 +201,13 @@ pub extern "C" fn enfys_instant_refusal(
 ) -> u32
     ensures { result ≡ instant_refusal_of (instant_of year month day hour minute second microsecond) }
 {
-    number(calendar::instant_of(Date { year, month, day }, TimeOfDay { hour, minute, second, microsecond }))
+    number(calendar::instant_of(
+        Date { year, month, day },
+        TimeOfDay {
+            hour,
+            minute,
+            second,
+            microsecond,
+        },
+    ))
 }

@@ -54,7 +54,12 @@ pub extern "C" fn enfys_join(day_word: i64, time_word: u64, day: &mut i64, micro
     ensures day { day.new ≡ joined_day_or day.old (join_of day_word time_word) }
     ensures micros { micros.new ≡ joined_micros_or micros.old (join_of day_word time_word) }
 {
-    match (ClockWords { day: day_word, time: time_word }).join() {
+    match (ClockWords {
+        day: day_word,
+        time: time_word,
+    })
+    .join()
+    {
         Ok(t) => {
             *day = t.day;
             *micros = t.micros;

@@ -18,7 +18,14 @@ pub extern "C" fn enfys_record_write(
     ensures refusal { result ≡ write_refusal day micros (length buffer.old) }
     ensures buffer { buffer.new ≡ written day micros ut1 lod rate buffer.old }
 {
-    number(Record { day, micros, ut1, lod, rate }.write(buffer))
+    number(Record {
+        day,
+        micros,
+        ut1,
+        lod,
+        rate,
+    }
+    .write(buffer))
 }
 
 // The instant and the three numbers in a record, or nothing written. Returns the refusal number.

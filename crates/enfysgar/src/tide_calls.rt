@@ -4,9 +4,8 @@ ghost use Rattle.utc.specs.Readings.{reading};
 ghost use Rattle.tide.specs.Tidal.{tide_of, frequency_or, phase_or, frequency_of, phase_of, tide_refusal_of, doodson};
 
 use crate::number;
-use utc::Reading;
-
 use tide::Doodson;
+use utc::Reading;
 
 // The frequency, in cycles per day, and the phase, in degrees, or nothing written. Returns the refusal number.
 #[unsafe(no_mangle)]
@@ -39,7 +38,18 @@ pub extern "C" fn enfys_tide(
         k5,
         k6,
     };
-    match tide::tide_of(Reading { year, month, day, hour, minute, second, microsecond }, k) {
+    match tide::tide_of(
+        Reading {
+            year,
+            month,
+            day,
+            hour,
+            minute,
+            second,
+            microsecond,
+        },
+        k,
+    ) {
         Ok(x) => {
             *frequency = x.frequency;
             *phase = x.phase;
@@ -77,7 +87,19 @@ pub extern "C" fn enfys_tide_frequency(
         k5,
         k6,
     };
-    tide::tide_of(Reading { year, month, day, hour, minute, second, microsecond }, k).map_or(0.0, |x| x.frequency)
+    tide::tide_of(
+        Reading {
+            year,
+            month,
+            day,
+            hour,
+            minute,
+            second,
+            microsecond,
+        },
+        k,
+    )
+    .map_or(0.0, |x| x.frequency)
 }
 
 // The phase, in degrees.
@@ -108,7 +130,19 @@ pub extern "C" fn enfys_tide_phase(
         k5,
         k6,
     };
-    tide::tide_of(Reading { year, month, day, hour, minute, second, microsecond }, k).map_or(0.0, |x| x.phase)
+    tide::tide_of(
+        Reading {
+            year,
+            month,
+            day,
+            hour,
+            minute,
+            second,
+            microsecond,
+        },
+        k,
+    )
+    .map_or(0.0, |x| x.phase)
 }
 
 // The refusal number of a UTC reading and six multipliers.
@@ -138,5 +172,16 @@ pub extern "C" fn enfys_tide_refusal(
         k5,
         k6,
     };
-    number(tide::tide_of(Reading { year, month, day, hour, minute, second, microsecond }, k))
+    number(tide::tide_of(
+        Reading {
+            year,
+            month,
+            day,
+            hour,
+            minute,
+            second,
+            microsecond,
+        },
+        k,
+    ))
 }

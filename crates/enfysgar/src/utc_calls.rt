@@ -27,7 +27,17 @@ pub extern "C" fn enfys_utc_to_tt(
     ensures day { day.new ≡ instant_day_or day.old (tt_of (reading year month day_of_month hour minute second microsecond)) }
     ensures micros { micros.new ≡ instant_micros_or micros.old (tt_of (reading year month day_of_month hour minute second microsecond)) }
 {
-    match (Reading { year, month, day: day_of_month, hour, minute, second, microsecond }).to_tt() {
+    match (Reading {
+        year,
+        month,
+        day: day_of_month,
+        hour,
+        minute,
+        second,
+        microsecond,
+    })
+    .to_tt()
+    {
         Ok(t) => {
             *day = t.day;
             *micros = t.micros;
@@ -50,7 +60,17 @@ pub extern "C" fn enfys_utc_to_tt_day(
 ) -> i64
     ensures { result ≡ instant_day_of (tt_of (reading year month day hour minute second microsecond)) }
 {
-    Reading { year, month, day, hour, minute, second, microsecond }.to_tt().map_or(0, |t| t.day)
+    Reading {
+        year,
+        month,
+        day,
+        hour,
+        minute,
+        second,
+        microsecond,
+    }
+    .to_tt()
+    .map_or(0, |t| t.day)
 }
 
 // The microseconds of a UTC reading's instant, from 0 h TT on.
@@ -66,7 +86,17 @@ pub extern "C" fn enfys_utc_to_tt_micros(
 ) -> u64
     ensures { result ≡ instant_micros_of (tt_of (reading year month day hour minute second microsecond)) }
 {
-    Reading { year, month, day, hour, minute, second, microsecond }.to_tt().map_or(0, |t| t.micros)
+    Reading {
+        year,
+        month,
+        day,
+        hour,
+        minute,
+        second,
+        microsecond,
+    }
+    .to_tt()
+    .map_or(0, |t| t.micros)
 }
 
 // The refusal number of a UTC reading.
@@ -82,7 +112,16 @@ pub extern "C" fn enfys_utc_to_tt_refusal(
 ) -> u32
     ensures { result ≡ instant_refusal_of (tt_of (reading year month day hour minute second microsecond)) }
 {
-    number(Reading { year, month, day, hour, minute, second, microsecond }.to_tt())
+    number(Reading {
+        year,
+        month,
+        day,
+        hour,
+        minute,
+        second,
+        microsecond,
+    }
+    .to_tt())
 }
 
 // The UTC reading of an instant, or nothing written. Returns the refusal number.
