@@ -21,7 +21,7 @@ use Rattle.schwiderski.specs.Service.{first_year, last_year, in_year, angles_cas
 use Rattle.schwiderski.specs.Claims.{Every, InDays}
 use Rattle.schwiderski.proofs.Days.{finite_day, year_end}
 use Rattle.schwiderski.proofs.Sums.{sums_finite}
-use Rattle.std.specs.Prelude.{Result, Ok, Err, None}
+use Rattle.std.specs.Prelude.{Result, Ok, Err}
 use Rattle.instants.specs.declared.refusal.Refusal.{Refusal}
 
 -- ---- the range

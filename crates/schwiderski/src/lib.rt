@@ -9,6 +9,7 @@ ghost use Rattle.binary64.specs.Reduction.{reduced};
 ghost use Rattle.schwiderski.specs.Formula.{two_pi, leap_days, day_count, longitudes, angle_sum, sums, reduced_each, angles_of};
 ghost use Rattle.schwiderski.specs.Service.{schwiderski_of};
 
+use instants::Refusal;
 use std::num;
 
 const FIRST_YEAR: u64 = 1974;
@@ -23,6 +24,16 @@ const TWO_PI: f64 = 6.283185307179586476925287;
 // The radians of a degree.
 const DEGREE: f64 = 0.174532925199e-1;
 
+// A day of the year 1900 + y, as the formula takes it.
+#[derive(Clone, Copy)]
+struct FormulaDay {
+    y: u64,
+    day: f64,
+    ghost year: { y ≤ 200 },
+    ghost from: { T (Ieee.le (whole (pos 1)) day) },
+    ghost below: { T (Ieee.lt day (whole (pos 367))) },
+}
+
 // What every angle is made of: the seconds of the day, and the mean longitudes of the Sun, of the Moon and of its perigee at its beginning, in radians.
 #[derive(Clone, Copy)]
 struct Longitudes {
@@ -33,7 +44,7 @@ struct Longitudes {
 }
 
 // The eleven angles, in radians.
-#[derive(Drop)]
+#[derive(Clone, Copy)]
 pub struct Angles {
     pub m2: f64,
     pub s2: f64,
@@ -48,72 +59,68 @@ pub struct Angles {
     pub ssa: f64,
 }
 
-// The eleven angles, or the number of a refusal.
-#[derive(Drop)]
-pub enum AnglesAnswer {
-    AtAngles(Angles),
-    NoAngles(u32),
-}
+impl FormulaDay {
+    // The leap days from 1973 to the beginning of the year; before 1973, minus one for each whole four years.
+    fn leap_days(self) -> i64
+        ensures { result ≡ leap_days self.y }
+    {
+        (self.y as i64 - 73) / 4
+    }
 
-// The leap days from 1973 to the beginning of the year 1900 + y; before 1973, minus one for each whole four years.
-fn leap_days(y: u64) -> i64
-    requires { y ≤ 200 }
-    ensures { result ≡ leap_days y }
-{
-    (y as i64 - 73) / 4
-}
+    // The days from the last of 1974 to the day d of the year; before 1973 up to one more.
+    fn count(self, d: u64) -> i64
+        requires { d ≤ 366 }
+        ensures { result ≡ day_count self.y d }
+    {
+        d as i64 + 365 * (self.y as i64 - 75) + self.leap_days()
+    }
 
-// The days from the last of 1974 to the day d of the year 1900 + y; before 1973 up to one more.
-fn day_count(y: u64, d: u64) -> i64
-    requires year { y ≤ 200 }
-    requires day { d ≤ 366 }
-    ensures { result ≡ day_count y d }
-{
-    d as i64 + 365 * (y as i64 - 75) + leap_days(y)
-}
-
-// The seconds and the longitudes at a day of the year 1900 + y.
-fn longitudes_of(y: u64, day: f64) -> Longitudes
-    requires year { y ≤ 200 }
-    requires from { T (Ieee.le (whole (pos 1)) day) }
-    requires below { T (Ieee.lt day (whole (pos 367))) }
-    ensures { result ≡ longitudes y day }
-{
-    let id = num::truncating_f64_to_u64(day);
-    let n = day_count(y, id);
-    let t = (27392.500528 + 1.000000035 * (n as f64)) / 36525.0;
-    Longitudes {
-        seconds: (day - id as f64) * 86400.0,
-        sun: (279.69668 + (36000.768930485 + 3.03e-4 * t) * t) * DEGREE,
-        moon: (((1.9e-6 * t - 0.001133) * t + 481267.88314137) * t + 270.434358) * DEGREE,
-        perigee: (((-(1.2e-5 * t) - 0.010325) * t + 4069.0340329577) * t + 334.329653) * DEGREE,
+    // The seconds and the longitudes at the day.
+    fn longitudes(self) -> Longitudes
+        ensures { result ≡ longitudes self.y self.day }
+    {
+        let id = num::truncating_f64_to_u64(self.day);
+        let n = self.count(id);
+        let t = (27392.500528 + 1.000000035 * (n as f64)) / 36525.0;
+        Longitudes {
+            seconds: (self.day - id as f64) * 86400.0,
+            sun: (279.69668 + (36000.768930485 + 3.03e-4 * t) * t) * DEGREE,
+            moon: (((1.9e-6 * t - 0.001133) * t + 481267.88314137) * t + 270.434358) * DEGREE,
+            perigee: (((-(1.2e-5 * t) - 0.010325) * t + 4069.0340329577) * t + 334.329653) * DEGREE,
+        }
     }
 }
 
-// The angle of a speed, in radians a second, and of four factors: those of the longitudes and of two-pi.
-fn reduced_sum(l: Longitudes, speed: f64, h: f64, s: f64, p: f64, turns: f64) -> f64
-    ensures { result ≡ reduced two_pi (angle_sum l speed h s p turns) }
-{
-    let sum = speed * l.seconds + h * l.sun + s * l.moon + p * l.perigee + turns * TWO_PI;
-    binary64::reduce(sum, TWO_PI)
-}
+impl Longitudes {
+    // The angle of a speed, in radians a second, and of four factors: those of the longitudes and of two-pi.
+    fn angle(self, speed: f64, h: f64, s: f64, p: f64, turns: f64) -> f64
+        ensures { result ≡ reduced two_pi (angle_sum self speed h s p turns) }
+    {
+        let sum = speed * self.seconds
+            + h * self.sun
+            + s * self.moon
+            + p * self.perigee
+            + turns * TWO_PI;
+        binary64::reduce(sum, TWO_PI)
+    }
 
-// The eleven angles from what they are made of.
-fn angles_from(l: Longitudes) -> Angles
-    ensures { result ≡ reduced_each (sums l) }
-{
-    Angles {
-        m2: reduced_sum(l, 1.40519e-4, 2.0, -2.0, 0.0, 0.0),
-        s2: reduced_sum(l, 1.45444e-4, 0.0, 0.0, 0.0, 0.0),
-        n2: reduced_sum(l, 1.37880e-4, 2.0, -3.0, 1.0, 0.0),
-        k2: reduced_sum(l, 1.45842e-4, 2.0, 0.0, 0.0, 0.0),
-        k1: reduced_sum(l, 0.72921e-4, 1.0, 0.0, 0.0, 0.25),
-        o1: reduced_sum(l, 0.67598e-4, 1.0, -2.0, 0.0, -0.25),
-        p1: reduced_sum(l, 0.72523e-4, -1.0, 0.0, 0.0, -0.25),
-        q1: reduced_sum(l, 0.64959e-4, 1.0, -3.0, 1.0, -0.25),
-        mf: reduced_sum(l, 0.053234e-4, 0.0, 2.0, 0.0, 0.0),
-        mm: reduced_sum(l, 0.026392e-4, 0.0, 1.0, -1.0, 0.0),
-        ssa: reduced_sum(l, 0.003982e-4, 2.0, 0.0, 0.0, 0.0),
+    // The eleven angles, each with its row of ARG2's table.
+    fn angles(self) -> Angles
+        ensures { result ≡ reduced_each (sums self) }
+    {
+        Angles {
+            m2: self.angle(1.40519e-4, 2.0, -2.0, 0.0, 0.0),
+            s2: self.angle(1.45444e-4, 0.0, 0.0, 0.0, 0.0),
+            n2: self.angle(1.37880e-4, 2.0, -3.0, 1.0, 0.0),
+            k2: self.angle(1.45842e-4, 2.0, 0.0, 0.0, 0.0),
+            k1: self.angle(0.72921e-4, 1.0, 0.0, 0.0, 0.25),
+            o1: self.angle(0.67598e-4, 1.0, -2.0, 0.0, -0.25),
+            p1: self.angle(0.72523e-4, -1.0, 0.0, 0.0, -0.25),
+            q1: self.angle(0.64959e-4, 1.0, -3.0, 1.0, -0.25),
+            mf: self.angle(0.053234e-4, 0.0, 2.0, 0.0, 0.0),
+            mm: self.angle(0.026392e-4, 0.0, 1.0, -1.0, 0.0),
+            ssa: self.angle(0.003982e-4, 2.0, 0.0, 0.0, 0.0),
+        }
     }
 }
 
@@ -124,20 +131,20 @@ pub fn formula(y: u64, day: f64) -> Angles
     requires below { T (Ieee.lt day (whole (pos 367))) }
     ensures { result ≡ angles_of y day }
 {
-    angles_from(longitudes_of(y, day))
+    FormulaDay { y, day }.longitudes().angles()
 }
 
-// The eleven angles at a day of a year, or the first refusal: 1 for the year, 26 for the day.
-pub fn schwiderski_of(year: u64, day: f64) -> AnglesAnswer
+// The eleven angles at a day of a year, or the first refusal: of the year, then of the day.
+pub fn schwiderski_of(year: u64, day: f64) -> Result<Angles, Refusal>
     ensures { result ≡ schwiderski_of year day }
 {
     if (year < FIRST_YEAR) | (LAST_YEAR < year) {
-        return AnglesAnswer::NoAngles(1);
+        return Err(Refusal::Year);
     }
     let end = (calendar::year_length(year) + 1) as f64;
     if (1.0 <= day) & (day < end) {
-        AnglesAnswer::AtAngles(formula(year - FORMULA_YEAR, day))
+        Ok(formula(year - FORMULA_YEAR, day))
     } else {
-        AnglesAnswer::NoAngles(26)
+        Err(Refusal::DayOfYear)
     }
 }

@@ -4,4 +4,4 @@ use Rattle.schwiderski.proofs.formula.Goals as goal
 
 pub returns : goal.returns
 unfolding angles_of
-returns c = rw (c.angles_from.ensures, c.longitudes_of.ensures)
+returns c = rw (c.angles.ensures, c.longitudes.ensures)

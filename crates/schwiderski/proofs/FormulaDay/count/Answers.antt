@@ -1,9 +1,9 @@
--- `schwiderski::day_count` meets its contract: each number is small, so the machine reads it back from its bits.
+-- `schwiderski::FormulaDay::count` meets its contract: each number is small, so the machine reads it back from its bits.
 use Rattle.std.proofs.Common.{ℕ, ◌+◌, ◌*◌, ◌≤◌, ◌≡◌, ℤ, pos, ◌+ℤ◌, ◌-ℤ◌, ◌*ℤ◌, refl, ap, lit<, lit≤, w64, to_z}
 use Rattle.algebra.proofs.Bits.{read_back, InBits, bits_fit, bits_back, bits_times, bits_plus}
 use Rattle.schwiderski.specs.Formula.{leap_days, day_count}
 use Rattle.schwiderski.proofs.Days.{came_in, less_size, leap_days_size}
-use Rattle.schwiderski.proofs.day_count.Goals as goal
+use Rattle.schwiderski.proofs.FormulaDay.count.Goals as goal
 
 module _ (y d : ℕ) (h : y ≤ 200) (k : d ≤ 366) where
   from-75 : InBits (to_z w64 y -ℤ pos 75) (pos y -ℤ pos 75) 200
@@ -21,7 +21,7 @@ module _ (y d : ℕ) (h : y ≤ 200) (k : d ≤ 366) where
   count n e = bits_plus (bits_back days) (bits_back (record { is = e; most = leap_days_size y h; room = lit< tt })) (lit< tt)
 
 pub overflow_add-result-2 : goal.overflow_add-result-2
-overflow_add-result-2 c = bits_fit (count c.args.y c.args.d c.requires.year c.requires.day c.leap_days.result c.leap_days.ensures)
+overflow_add-result-2 c = bits_fit (count c.args.self.y c.args.d c.args.self.year c.requires c.leap_days.result c.leap_days.ensures)
 
 pub returns : goal.returns
-returns c = (bits_back (count c.args.y c.args.d c.requires.year c.requires.day c.leap_days.result c.leap_days.ensures)).is
+returns c = (bits_back (count c.args.self.y c.args.d c.args.self.year c.requires c.leap_days.result c.leap_days.ensures)).is
