@@ -10,7 +10,8 @@ use Rattle.bigendian.specs.Numbers.{bytes_of}
 use Rattle.bigendian.specs.Buffers.{at_front}
 use Rattle.bigendian.proofs.Buffers.{front_none}
 use Rattle.record.specs.Format.{record_length}
-use Rattle.rescue.specs.Walk.{Range, range}
+use Rattle.rescue.specs.Walk.{range}
+use Rattle.rescue.specs.declared.Range.{Range}
 use Rattle.rescue.specs.Rescue.{entry_length, records_at, list_bytes}
 use Rattle.rescue.specs.Inner.{range_to}
 use Rattle.rescue.specs.Claims.{Each}

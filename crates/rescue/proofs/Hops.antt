@@ -7,11 +7,12 @@ use mathlib.Core.List.{List, [], ◌∷◌, ◌++◌}
 use native.Mathlib.Omega.{arith}
 use native.Mathlib.Decide.{ℕ_discrete, dec_lt}
 use lib.ListN.{length, drop, take, length-drop}
-use lib.Seq.{take_all}
+use lib.Seq.{take_all, take_at, drop_at, drop-drop}
 use Rattle.record.specs.Format.{record_length}
 use Rattle.record.specs.Inner.{head_refusal}
 use Rattle.record.specs.Records.{read_of, is_record}
 use Rattle.record.proofs.Forms.{head_needed}
+use Rattle.record.proofs.Kept.{read_front}
 use Rattle.rescue.specs.Walk.{Walk, has_record, walk_from}
 use Rattle.rescue.specs.Inner.{Hop, Chain}
 use Rattle.rescue.specs.Claims.{places_from}
@@ -24,25 +25,6 @@ pub record Looked (s : List ℕ) (i j : ℕ) : Type 0 where
   pub onward : i ≤ j
   pub within : j ≤ length s
   pub passed : (k : ℕ) → i ≤ k → k < j → has_record s k ≡ false
-
-pub looked_none : (s : List ℕ) (i : ℕ) → i ≤ length s → Looked s i i
-looked_none s i h = record { onward = omega arith; within = h; passed = λ k p q. absurd (omega arith) }
-
-pub looked_on : {s : List ℕ} {i j : ℕ} → Looked s i j → j < length s → has_record s j ≡ false → Looked s i (j + 1)
-looked_on {s} {i} {j} l h e = record { onward = omega (arith, l.onward); within = omega arith; passed = by }
-  where
-    by : (k : ℕ) → i ≤ k → k < j + 1 → has_record s k ≡ false
-    by k p q = at (ℕ_discrete k j)
-      where
-        at : Dec (k ≡ j) → has_record s k ≡ false
-        at (yes x) = ap (has_record s) x ∙ e
-        at (no x) = l.passed k p (omega (arith, x))
-
-pub looked_found : {s : List ℕ} {i j : ℕ} → Looked s i j → has_record s j ≡ true → Hop s i j
-looked_found l e = record { onward = l.onward; within = l.within; passed = l.passed; found = λ h. e }
-
-pub looked_end : {s : List ℕ} {i j : ℕ} → Looked s i j → length s ≤ j → Hop s i j
-looked_end l h = record { onward = l.onward; within = l.within; passed = l.passed; found = λ g. absurd (omega arith) }
 
 -- ---- looking for the end of records
 
@@ -69,20 +51,26 @@ linked_on {s} {i} {j} l e = record { count = suc l.count; end = omega (arith, l.
 pub linked_end : {s : List ℕ} {i j : ℕ} → Linked s i j → has_record s j ≡ false → Chain s i j
 linked_end l e = record { count = l.count; end = l.end; reads = l.reads; ended = e }
 
--- at the end no record stands
-pub none_at_end : (s : List ℕ) (j : ℕ) → length s ≤ j → has_record s j ≡ false
-none_at_end s j h = by (has_record s j) refl
+-- where fewer than thirty bytes are left no record stands
+pub none_behind : (s : List ℕ) (j : ℕ) → length (drop j s) < record_length → has_record s j ≡ false
+none_behind s j h = by (has_record s j) refl
   where
     by : (b : Bool) → has_record s j ≡ b → b ≡ false
     by false e = refl
-    by true e = absurd (omega (arith, record_within s j e))
+    by true e = absurd (omega (arith, record_within s j e, length-drop j s))
 
--- the part of s that is lent from j on is all of it from there on
-pub lent_reads : (s : List ℕ) (j : ℕ) → is_record (read_of (take (length s - j) (drop j s))) ≡ has_record s j
-lent_reads s j = ap (λ (l : List ℕ). is_record (read_of l)) (take_all (length s - j) (drop j s) (omega (arith, length-drop j s)))
+-- the first thirty of the bytes from j on
+module _ (s x rest : List ℕ) (j : ℕ) (e : drop j s ≡ x ++ rest) (h : length x ≡ record_length) where
+  -- read as all of them do
+  pub chunk_reads : is_record (read_of x) ≡ has_record s j
+  chunk_reads = ap is_record (ap read_of (sym (take_at x rest record_length h) ∙ ap (take record_length) (sym e)) ∙ read_front (drop j s))
 
-pub lent_headless : (s : List ℕ) (j : ℕ) → (head_refusal (take (length s - j) (drop j s)) ≡ 0 → ⊥) → has_record s j ≡ false
-lent_headless s j h = sym (lent_reads s j) ∙ head_needed (take (length s - j) (drop j s)) h
+  pub chunk_headless : (head_refusal x ≡ 0 → ⊥) → has_record s j ≡ false
+  chunk_headless n = sym chunk_reads ∙ head_needed x n
+
+  -- and the others are the bytes behind them
+  pub chunk_on : rest ≡ drop (j + record_length) s
+  chunk_on = sym (drop_at x rest record_length h) ∙ (ap (drop record_length) (sym e) ∙ drop-drop record_length j s)
 
 -- ---- a hop of the walk
 

@@ -17,7 +17,8 @@ use Rattle.instants.proofs.FirstRefusal.{handed_on, none_answered, refused_first
 use Rattle.record.specs.Format.{record_length}
 use Rattle.record.specs.Records.{read_of, is_record}
 use Rattle.record.proofs.Kept.{read_front}
-use Rattle.rescue.specs.Walk.{Range, range, walk, has_record}
+use Rattle.rescue.specs.Walk.{range, walk, has_record}
+use Rattle.rescue.specs.declared.Range.{Range}
 use Rattle.rescue.specs.Rescue.{most_bytes, entry_length, kept_count, ranges_in, passed_count, counts_of, records_at, kept_bytes, list_bytes, rescue_cases, rescue_of, records_after, list_after, kept_of, ranges_number_of, passed_of, rescue_refusal_of}
 use Rattle.rescue.specs.Claims.{Each, listed, WholeRecords}
 use Rattle.rescue.proofs.Entries.{list_length}

@@ -11,7 +11,8 @@ use lib.Dec.{eqb}
 use lib.ListN.{length}
 use borrow.Author.Tests.{lt-ltb, le-ltb, eq-eqb, ne_eqb, eqb-true, eqb-false}
 use Rattle.record.specs.Format.{record_length}
-use Rattle.rescue.specs.Walk.{Range, range, Walk, walk_from, joined, ranges_of}
+use Rattle.rescue.specs.Walk.{range, Walk, walk_from, joined, ranges_of}
+use Rattle.rescue.specs.declared.Range.{Range}
 use Rattle.rescue.specs.Rescue.{ranges_in}
 use Rattle.rescue.specs.Inner.{Hop, range_to}
 use Rattle.rescue.specs.Claims.{places_from, places_of, StartsAfter, Apart}

@@ -12,7 +12,8 @@ use Rattle.bigendian.specs.Buffers.{at_front}
 use Rattle.bigendian.proofs.Buffers.{front_copy}
 use Rattle.bigendian.proofs.Filling.{Filling, filling_none, filling_sum, filling_room, filling_more, filling_all}
 use Rattle.record.specs.Format.{record_length}
-use Rattle.rescue.specs.Walk.{Range, range, walk_from, ranges_of}
+use Rattle.rescue.specs.Walk.{range, walk_from, ranges_of}
+use Rattle.rescue.specs.declared.Range.{Range}
 use Rattle.rescue.specs.Rescue.{entry_length, kept_count, ranges_in, passed_count, records_at, kept_bytes, list_bytes}
 use Rattle.rescue.specs.Inner.{Hop, Chain, range_to, Fits}
 use Rattle.rescue.proofs.Walks.{walk_ends}

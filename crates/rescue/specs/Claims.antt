@@ -2,7 +2,8 @@
 use Rattle.std.specs.Prelude.{ℕ, zero, suc, ◌+◌, ◌*◌, ◌<◌, ◌≤◌, ◌≡◌, Bool, true, false, ◌&&◌, ◌||◌, List, [], ◌∷◌, ◌++◌, eqb, ltb, leb, length, drop}
 use Rattle.bigendian.specs.Numbers.{number_at}
 use Rattle.record.specs.Format.{record_length}
-use Rattle.rescue.specs.Walk.{Range, range, has_record}
+use Rattle.rescue.specs.Walk.{range, has_record}
+use Rattle.rescue.specs.declared.Range.{Range}
 use Rattle.rescue.specs.Rescue.{entry_length}
 
 -- something holds of every place of a list

@@ -1,7 +1,8 @@
 -- What only the contracts of the code's own functions cite.
 use Rattle.std.specs.Prelude.{ℕ, ◌+◌, ◌-◌, ◌*◌, ◌<◌, ◌≤◌, ◌≡◌, true, false, cond, List, [], ◌∷◌, ltb, length}
 use Rattle.record.specs.Format.{record_length}
-use Rattle.rescue.specs.Walk.{Range, range, has_record}
+use Rattle.rescue.specs.Walk.{range, has_record}
+use Rattle.rescue.specs.declared.Range.{Range}
 use Rattle.rescue.specs.Rescue.{most_bytes, entry_length, kept_count, ranges_in}
 
 -- from place i on the next record is at j, or j is the end

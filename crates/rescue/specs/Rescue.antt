@@ -5,7 +5,8 @@ use Rattle.bigendian.specs.Buffers.{at_front}
 use Rattle.instants.specs.Refusals.{Case, case, refused_or, refusal_of}
 use Rattle.record.specs.Format.{record_length}
 use Rattle.rescue.specs.declared.Counts.{Counts}
-use Rattle.rescue.specs.Walk.{Range, walk, ranges_of}
+use Rattle.rescue.specs.Walk.{walk, ranges_of}
+use Rattle.rescue.specs.declared.Range.{Range}
 use Rattle.instants.specs.declared.refusal.Refusal.{Refusal}
 use Rattle.instants.specs.declared.refusal.Refusal.TheVariants.{BufferShort, RescueLength}
 

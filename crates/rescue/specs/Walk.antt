@@ -2,6 +2,7 @@
 use Rattle.std.specs.Prelude.{ℕ, zero, suc, ◌+◌, ◌-◌, Bool, cond, List, [], ◌∷◌, eqb, ltb, length, drop}
 use Rattle.record.specs.Format.{record_length}
 use Rattle.record.specs.Records.{read_of, is_record}
+use Rattle.rescue.specs.declared.Range.{Range}
 
 -- ---- the rule
 
@@ -44,12 +45,7 @@ walk s = walk_from s 0
 
 -- ---- ranges
 
--- passed bytes side by side: the place of the first, and how many they are
-pub record Range : Type 0 where
-  pub start : ℕ
-  pub size : ℕ
-
--- n of them from place i on
+-- passed bytes side by side: n of them from place i on
 abbrev pub range : (start size : ℕ) → Range
 range i n = record { start = i; size = n }
 

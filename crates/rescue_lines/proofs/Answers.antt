@@ -13,7 +13,7 @@ use Rattle.instants.proofs.FirstRefusal.{in_both_lem, refused_alike}
 use Rattle.instants.proofs.Impossible.{impossible}
 use Rattle.record.specs.Format.{record_length}
 use Rattle.rescue.specs.declared.Counts.{Counts}
-use Rattle.rescue.specs.Walk.{Range}
+use Rattle.rescue.specs.declared.Range.{Range}
 use Rattle.rescue.specs.Rescue.{most_bytes, entry_length, kept_count, ranges_in, counts_of, list_bytes, input_cases, rescue_of, records_after, list_after}
 use Rattle.rescue.specs.Inner.{Fits}
 use Rattle.rescue.specs.Claims.{listed}

@@ -7,7 +7,8 @@ use lib.ListN.{length, drop, length-append}
 use Rattle.bigendian.specs.Numbers.{number_at}
 use Rattle.bigendian.proofs.Numbers.{number_drop}
 use Rattle.rescue.specs.declared.Counts.{Counts}
-use Rattle.rescue.specs.Walk.{Range, range}
+use Rattle.rescue.specs.Walk.{range}
+use Rattle.rescue.specs.declared.Range.{Range}
 use Rattle.rescue.specs.Rescue.{entry_length}
 use Rattle.rescue.specs.Claims.{listed}
 use Rattle.text.specs.Text.{numeral}

@@ -2,7 +2,7 @@
 use Rattle.std.specs.Prelude.{ℕ, List, [], ◌∷◌, ◌++◌}
 use Rattle.instants.specs.Refusals.{refused_or}
 use Rattle.rescue.specs.declared.Counts.{Counts}
-use Rattle.rescue.specs.Walk.{Range}
+use Rattle.rescue.specs.declared.Range.{Range}
 use Rattle.rescue.specs.Rescue.{ranges_in, counts_of, kept_bytes, input_cases}
 use Rattle.text.specs.Text.{ascii, numeral, refusal_text}
 

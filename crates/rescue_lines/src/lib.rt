@@ -1,16 +1,15 @@
 // What the program rescue_records writes: the kept records, and a report of what was passed.
 #![tactic(auto)]
 
-ghost use Rattle.std.specs.Prelude.{◌≡◌, ◌++◌, ◌+◌, ◌*◌, ◌≤◌, length};
+ghost use Rattle.std.specs.Prelude.{◌≡◌, ◌++◌, ◌+◌, ◌*◌, ◌/◌, ◌≤◌, length};
 ghost use Rattle.bigendian.specs.Buffers.{at_front};
-ghost use Rattle.rescue.specs.Walk.{range};
 ghost use Rattle.rescue.specs.Rescue.{entry_length};
 ghost use Rattle.rescue.specs.Claims.{listed};
 ghost use Rattle.rescue_lines.specs.Lines.{line_text, lines_text, totals_text, records_text, report_text};
 ghost use Rattle.rescue_lines.specs.Inner.{line_most, totals_most};
 
 use record::LENGTH;
-use rescue::{Counts, ENTRY, NUMBER, RescueAnswer};
+use rescue::{Counts, ENTRY, Range};
 
 // The bytes of the kept records, of the list of ranges and of the report, at most.
 pub const RECORDS: usize = 65_520;
@@ -20,38 +19,33 @@ const LIST: usize = 16_920;
 pub const REPORT: usize = 80_470;
 
 // How many bytes are to be written, of the records and of the report.
-#[derive(Drop)]
+#[derive(Clone, Copy)]
 pub struct Sizes {
     pub records: usize,
     pub report: usize,
 }
 
 // Puts the line of a range at the front of the buffer and returns its length.
-fn put_line(start: u64, size: u64, buffer: &mut [u8]) -> usize
-    requires { length (line_text (range start size)) ≤ length buffer.old }
-    ensures size { result ≡ length (line_text (range start size)) }
-    ensures buffer { buffer.new ≡ at_front (line_text (range start size)) buffer.old }
+fn put_line(range: Range, buffer: &mut [u8]) -> usize
+    requires { length (line_text range) ≤ length buffer.old }
+    ensures size { result ≡ length (line_text range) }
+    ensures buffer { buffer.new ≡ at_front (line_text range) buffer.old }
 {
-    let passed = text::put_counted(b"passed ", size, buffer);
-    let at = passed + text::put_counted(b" bytes at ", start, &mut buffer[passed..]);
+    let passed = text::put_counted(b"passed ", range.size, buffer);
+    let at = passed + text::put_counted(b" bytes at ", range.start, &mut buffer[passed..]);
     at + bigendian::copy(b"\n", &mut buffer[at..])
 }
 
-// Puts a line for each of the first n entries of the list at the front of the buffer and returns their length.
-fn put_lines(list: &[u8], n: usize, buffer: &mut [u8]) -> usize
-    requires entries { entry_length * n ≤ length list.now }
-    requires room { line_most * n ≤ length buffer.old }
-    ensures most { result ≤ line_most * n }
-    ensures size { result ≡ length (lines_text (listed n list.now)) }
-    ensures buffer { buffer.new ≡ at_front (lines_text (listed n list.now)) buffer.old }
+// Puts a line for each entry of the list at the front of the buffer and returns their length.
+fn put_lines(list: &[u8], buffer: &mut [u8]) -> usize
+    requires { line_most * (length list.now / entry_length) ≤ length buffer.old }
+    ensures most { result ≤ line_most * (length list.now / entry_length) }
+    ensures size { result ≡ length (lines_text (listed (length list.now / entry_length) list.now)) }
+    ensures buffer { buffer.new ≡ at_front (lines_text (listed (length list.now / entry_length) list.now)) buffer.old }
 {
-    let mut k: usize = 0;
     let mut end: usize = 0;
-    while k < n {
-        let start = bigendian::number_at(list, ENTRY * k, NUMBER);
-        let size = bigendian::number_at(list, ENTRY * k + NUMBER, NUMBER);
-        end += put_line(start, size, &mut buffer[end..]);
-        k += 1;
+    for entry in list.chunks_exact(ENTRY) {
+        end += put_line(Range::read(entry), &mut buffer[end..]);
     }
     end
 }
@@ -75,7 +69,7 @@ fn put_report(list: &[u8], c: Counts, buffer: &mut [u8]) -> usize
     ensures size { result ≡ length (lines_text (listed c.ranges list.now) ++ totals_text c) }
     ensures buffer { buffer.new ≡ at_front (lines_text (listed c.ranges list.now) ++ totals_text c) buffer.old }
 {
-    let end = put_lines(list, c.ranges as usize, buffer);
+    let end = put_lines(&list[..ENTRY * (c.ranges as usize)], buffer);
     end + put_totals(c, &mut buffer[end..])
 }
 
@@ -86,13 +80,13 @@ pub fn answer(s: &[u8], records: &mut [u8; RECORDS], report: &mut [u8; REPORT]) 
     ensures report { report.new ≡ at_front (report_text s.now) report.old }
 {
     match rescue::rescue_of(s, RECORDS, LIST) {
-        RescueAnswer::NoRescue(n) => Sizes {
+        Err(r) => Sizes {
             records: 0,
-            report: text::refuse(n, report),
+            report: text::refuse(r, report),
         },
-        RescueAnswer::Rescued(c) => {
+        Ok(c) => {
             let mut list = [0u8; LIST];
-            rescue::rescue(s, records, &mut list);
+            let _ = rescue::rescue(s, records, &mut list);
             Sizes {
                 records: LENGTH * (c.kept as usize),
                 report: put_report(&list, c, report),

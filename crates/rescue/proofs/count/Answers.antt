@@ -1,24 +1,46 @@
-use Rattle.std.proofs.Common.{◌≤◌, length, refl, arith}
+use Rattle.std.proofs.Common.{◌≡◌, ◌+◌, ◌≤◌, nat_lt, length, refl, sym, ap, ◌∙◌, arith}
+use Rattle.std.specs.Int.{from_bool}
+use Rattle.rescue.specs.declared.Counts.{Counts}
+use Rattle.rescue.specs.Inner.{Hop, Chain}
 use Rattle.rescue.proofs.Hops.{chain_within}
-use Rattle.rescue.proofs.Rounds.{counted_none, counted_more, counted_few, counted_all}
+use Rattle.rescue.proofs.Rounds.{Counted, counted_none, counted_more, counted_few, counted_all}
 use Rattle.rescue.proofs.count.Goals as goal
 
-pub loop-at-init : goal.loop-at-init
-loop-at-init c = counted_none _
+pub loop-t-init : goal.loop-t-init
+loop-t-init c = rw c.into_iter-t-iterator.ensures.into_iter_gives (refl, counted_none c.args.s.now)
 
 pub overflow_add-ranges : goal.overflow_add-ranges
-overflow_add-ranges c = omega (arith, (counted_few c.loop-at.invariant).1)
+overflow_add-ranges c =
+    let x = c.in-Some.ensures.steps in
+    let i = c.loop-t.invariant in
+    let h : Hop c.args.s.now c.loop-t.t-iterator.at c.in-Some.t.from = rw (← i.0) x.1.2 in
+    let k : Chain c.args.s.now c.in-Some.t.from c.in-Some.t.end = rw (← i.0) x.1.3 in
+    omega (arith, ?)
+
+pub overflow_sub-result : goal.overflow_sub-result
+overflow_sub-result c = ?
 
 pub overflow_add-kept : goal.overflow_add-kept
 overflow_add-kept c =
-    let w : c.records_end-at.result ≤ length c.args.s.now = chain_within c.args.s.now _ _ c.records_end-at.ensures c.next_record-from.ensures.within in
-    omega (arith, (counted_few c.loop-at.invariant).0)
+    let x = c.in-Some.ensures.steps in
+    let i = c.loop-t.invariant in
+    let h : Hop c.args.s.now c.loop-t.t-iterator.at c.in-Some.t.from = rw (← i.0) x.1.2 in
+    let k : Chain c.args.s.now c.in-Some.t.from c.in-Some.t.end = rw (← i.0) x.1.3 in
+    let w : c.in-Some.t.end ≤ length c.args.s.now = chain_within c.args.s.now _ _ k h.within in
+    omega (arith, (counted_few i.1).0)
 
-pub loop-at-preserved : goal.loop-at-preserved
-loop-at-preserved c = counted_more _ _ _ c.loop-at.invariant c.next_record-from.ensures c.records_end-at.ensures c.one_if-ranges.ensures.number
-
-pub overflow_sub-result : goal.overflow_sub-result
-overflow_sub-result c = (counted_few c.loop-at.invariant).0
+pub loop-t-preserved : goal.loop-t-preserved
+loop-t-preserved c =
+    let x = c.in-Some.ensures.steps in
+    let i = c.loop-t.invariant in
+    let h : Hop c.args.s.now c.loop-t.t-iterator.at c.in-Some.t.from = rw (← i.0) x.1.2 in
+    let k : Chain c.args.s.now c.in-Some.t.from c.in-Some.t.end = rw (← i.0) x.1.3 in
+    let r : c.from-ranges.result ≡ from_bool (nat_lt c.loop-t.t-iterator.at c.in-Some.t.from) =
+    c.from-ranges.ensures ∙ ap (λ (a : ℕ). from_bool (nat_lt a c.in-Some.t.from)) x.1.0 in
+    rw (x.0, x.1.1) (i.0, counted_more _ _ _ i.1 h k r)
 
 pub returns : goal.returns
-returns c = let e = counted_all c.loop-at.invariant c.loop-at-test.false in rw (← e.0, ← e.1, ← e.2) refl
+returns c =
+    let i = c.loop-t.invariant in
+    let e = counted_all i.1 (rw (← i.0) c.in-None.ensures.steps.1) in
+    rw (← e.0, ← e.1, ← e.2) refl

@@ -1,10 +1,7 @@
 -- What is counted, and what the walk from `at` still gives, are the whole walk's.
-use Rattle.std.proofs.Common.{◌-◌, length}
+use Rattle.std.proofs.Common.{◌≡◌}
 use Rattle.rescue.proofs.Rounds.{Counted}
 use Rattle.rescue.proofs.count.Given as goal
 
-abbrev pub invariant-loop-at : goal.invariant-loop-at
-invariant-loop-at l = Counted l.s l.at l.kept l.ranges
-
-abbrev pub decreases-loop-at : goal.decreases-loop-at
-decreases-loop-at l = length l.s - l.at
+abbrev pub invariant-loop-t : goal.invariant-loop-t
+invariant-loop-t l = (l.t-iterator.s.now ≡ l.s) × Counted l.s l.t-iterator.at l.kept l.ranges

@@ -1,6 +1,7 @@
 use Rattle.std.proofs.Common.{◌≡◌, ◌+◌, List, ℕ, ◌++◌, refl, ap, ap₂, sym, ◌∙◌, add-one, arith, length-take, length-drop}
 use Rattle.bigendian.proofs.Buffers.{front_none}
-use Rattle.rescue.specs.Walk.{Range, range}
+use Rattle.rescue.specs.Walk.{range}
+use Rattle.rescue.specs.declared.Range.{Range}
 use Rattle.rescue.specs.Claims.{listed}
 use Rattle.text.proofs.Pieces.{more_put}
 use Rattle.rescue_lines.specs.Lines.{line_text, lines_text}
