@@ -11,7 +11,7 @@ use mathlib.Core.Logic.{⊎_elim}
 use native.Mathlib.Decide.{dec_le}
 use mir.Facts.{and_yes, or_yes}
 use Rattle.instants.proofs.FirstRefusal.{none_answered, first_none}
-use Rattle.instants.specs.Refusals.{first_refusal}
+use Rattle.instants.specs.Refusals.{first_refusal, number}
 use Rattle.calendar.specs.Dates.{date, date_index, date_cases}
 use Rattle.calendar.specs.Claims.{same, one_of}
 use Rattle.calendar.specs.declared.Date.{Date}
@@ -33,7 +33,7 @@ tied : (t : Date) (r : Step) → T (eve_of t r) → Tied t r
 unfolding eve_of
 tied t r h =
     let a : _ × _ = and_yes (eqb (first_refusal (date_cases t.year t.month t.day)) 0) _ h in
-    record { real = valid _ _ _ (none_date _ _ _ (first_none (date_cases t.year t.month t.day) tt (eqb→eq _ _ a.0))); index = eqb→eq _ _ a.1 }
+    record { real = valid _ _ _ (none_date _ _ _ (first_none (date_cases t.year t.month t.day) (eqb→eq _ _ a.0))); index = eqb→eq _ _ a.1 }
 
 one_more : (a b : ℕ) → eqb (a + 1) (b + 1) ≡ eqb a b
 one_more a b = by (eqb a b) refl
@@ -100,7 +100,7 @@ module _ (ts : List Date) (eves : T (eves_of ts later_steps)) where
   -- PROMISE. A second past 59 that is accepted is second 60 at 23:59 of one of these dates.
   pub sixty_only : (r : Reading) → AcceptedReading r → 59 < r.second → (r.second ≡ 60) × (r.hour ≡ 23) × (r.minute ≡ 59) × T (one_of r.year r.month r.day ts)
   sixty_only r a h =
-      let k : Held r = none_held r (first_none (reading_cases r) tt a) in
+      let k : Held r = none_held r (first_none (reading_cases r) a) in
       by (last_second_lem (reading_index r) r.hour r.minute) k.seconds (has_second_60 ts eves _ (valid _ _ _ k.on))
     where
       by : {l : ℕ} → LastSecond (reading_index r) r.hour r.minute l → r.second ≤ l → has_second60 (reading_index r) ≡ one_of r.year r.month r.day ts
@@ -115,6 +115,6 @@ module _ (ts : List Date) (eves : T (eves_of ts later_steps)) where
       let s : has_second60 (date_index (date y m d)) ≡ true = has_second_60 ts eves (date y m d) v ∙ is_true _ o in
       let from = sixty_from _ s in
       let to = sixty_to _ s in
-      none_answered (λ n. n) (reading_cases (reading y m d 23 59 60 u)) 0
+      none_answered number (reading_cases (reading y m d 23 59 60 u)) 0
       (held_none (reading y m d 23 59 60 u)
       (record { on = in_range (date y m d) v (omega (arith, from)) (omega (arith, to)); hours = omega arith; minutes = omega arith; seconds = rw s (omega arith); microseconds = h; from = from; to = to }))

@@ -1,6 +1,6 @@
 -- Instants for phases. What is made of a reading is made of its one instant for phases, or is the reading's refusal: by the instant that the reading has,
 -- or has not. Assumes nothing.
-use Prim.Native.Nat.{ℕ, ◌<◌, ◌+◌}
+use Prim.Native.Nat.{◌<◌, ◌+◌}
 use mathlib.Core.Path.{◌≡◌, refl, sym, ◌∙◌}
 use Rattle.instants.specs.Limits.{day_micros}
 use Rattle.instants.specs.Refusals.{refused_or}
@@ -22,11 +22,11 @@ use Rattle.instants.specs.declared.Instant.{Instant}
 use Rattle.instants.specs.declared.refusal.Refusal.{Refusal}
 
 -- The case analysis behind the laws below: what holds of two answers at every refusal, and at the instant for phases of the reading.
-pub at_both : {A B : Type 0} (P : A → B → Type 0) (refuse : ℕ → A) (refuse' : ℕ → B) (answer : PhaseInstant → A) (answer' : PhaseInstant → B) (r : Reading)
-    → ((n : ℕ) → P (refuse n) (refuse' n)) → ((p : PhaseInstant) → p.utc ≡ r → P (answer p) (answer' p)) → P (at_phase refuse answer r) (at_phase refuse' answer' r)
+pub at_both : {A B : Type 0} (P : A → B → Type 0) (refuse : Refusal → A) (refuse' : Refusal → B) (answer : PhaseInstant → A) (answer' : PhaseInstant → B) (r : Reading)
+    → ((n : Refusal) → P (refuse n) (refuse' n)) → ((p : PhaseInstant) → p.utc ≡ r → P (answer p) (answer' p)) → P (at_phase refuse answer r) (at_phase refuse' answer' r)
 at_both P refuse refuse' answer answer' r h k = by (tt_of r) refl
   where
-    by : (x : (Result Instant Refusal)) (e : tt_of r ≡ x) → P (at_answer refuse answer r x e) (at_answer refuse' answer' r x e)
+    by : (x : Result Instant Refusal) (e : tt_of r ≡ x) → P (at_answer refuse answer r x e) (at_answer refuse' answer' r x e)
     by (Ok t) e = k (record { tt = t; utc = r; together = e }) refl
     by (Err n) e = h n
 
@@ -34,21 +34,21 @@ at_both P refuse refuse' answer answer' r h k = by (tt_of r) refl
 pub tt_of_phase : (r : Reading) → at_phase Err (λ p. Ok p.tt) r ≡ tt_of r
 tt_of_phase r = by (tt_of r) refl
   where
-    by : (x : (Result Instant Refusal)) (e : tt_of r ≡ x) → at_answer Err (λ p. Ok p.tt) r x e ≡ tt_of r
+    by : (x : Result Instant Refusal) (e : tt_of r ≡ x) → at_answer Err (λ p. Ok p.tt) r x e ≡ tt_of r
     by (Ok t) e = sym e
     by (Err n) e = sym e
 
 -- a reading without an instant is refused by its number
-refused_too : {A : Type 0} (refuse : ℕ → A) (r : Reading) (a : A) (n : ℕ) → tt_of r ≡ Err n → refused_or refuse (reading_cases r) a ≡ refuse n
+refused_too : {A : Type 0} (refuse : Refusal → A) (r : Reading) (a : A) (n : Refusal) → tt_of r ≡ Err n → refused_or refuse (reading_cases r) a ≡ refuse n
 unfolding tt_of
 refused_too refuse r a n e = refused_alike Err refuse (reading_cases r) (Ok (tt_at (reading_index r) (reading_micros r))) a n (λ k p. cc) (λ p. impossible (cc)) e
 
 -- an answer that does not depend on how the instant was come by, behind the cases of the reading
-pub in_cases : {A : Type 0} (refuse : ℕ → A) (answer : PhaseInstant → A) (r : Reading) (a : A) → ((p : PhaseInstant) → p.utc ≡ r → answer p ≡ a)
+pub in_cases : {A : Type 0} (refuse : Refusal → A) (answer : PhaseInstant → A) (r : Reading) (a : A) → ((p : PhaseInstant) → p.utc ≡ r → answer p ≡ a)
     → at_phase refuse answer r ≡ refused_or refuse (reading_cases r) a
 in_cases {A} refuse answer r a h = by (tt_of r) refl
   where
-    by : (x : (Result Instant Refusal)) (e : tt_of r ≡ x) → at_answer refuse answer r x e ≡ refused_or refuse (reading_cases r) a
+    by : (x : Result Instant Refusal) (e : tt_of r ≡ x) → at_answer refuse answer r x e ≡ refused_or refuse (reading_cases r) a
     by (Ok t) e = h (record { tt = t; utc = r; together = e }) refl ∙ sym (none_answered refuse (reading_cases r) a (held_none r (answered_held r t e).0))
     by (Err n) e = sym (refused_too refuse r a n e)
 
@@ -87,12 +87,12 @@ pub phase_is : (r : Reading) → at_phase Err (λ p. Ok (parts_of p)) r ≡ phas
 unfolding phase_answer
 phase_is r = by (tt_of r) refl
   where
-    by : (x : (Result Instant Refusal)) (e : tt_of r ≡ x) → at_answer Err (λ p. Ok (parts_of p)) r x e ≡ phase_by r x
+    by : (x : Result Instant Refusal) (e : tt_of r ≡ x) → at_answer Err (λ p. Ok (parts_of p)) r x e ≡ phase_by r x
     by (Ok t) e = refl
     by (Err n) e = refl
 
 -- a reading whose answer is given has parts that belong together
 pub answer_together : (r : Reading) (x : PhaseParts) → phase_answer r ≡ Ok x → Together x
 answer_together r x h =
-    at_both (λ (a b : (Result PhaseParts Refusal)). a ≡ Ok x → Together x) Err Err (λ p. Ok (parts_of p)) (λ p. Ok (parts_of p)) r (λ n e. impossible (cc))
+    at_both (λ (a b : Result PhaseParts Refusal). a ≡ Ok x → Together x) Err Err (λ p. Ok (parts_of p)) (λ p. Ok (parts_of p)) r (λ n e. impossible (cc))
     (λ p _ e. record { at = p; are = cc }) (phase_is r ∙ h)

@@ -6,6 +6,7 @@ use mathlib.Core.List.{◌++◌}
 use mathlib.Core.Logic.{◌⊎◌, inl, inr}
 use lib.Dec.{ltb, leb}
 use lib.IntN.{ℤ}
+use Rattle.instants.specs.Refusals.{number}
 use Rattle.instants.specs.Instants.{instant, day_index, instant_cases, IsAccepted}
 use Rattle.instants.specs.Moments.{moment_of}
 use Rattle.instants.specs.declared.Instant.{Instant}
@@ -27,11 +28,11 @@ use Rattle.instants.specs.declared.refusal.Refusal.TheVariants.{UtcEarly, UtcExp
 -- PROMISE. An accepted reading has an instant.
 pub accepted_answered : (r : Reading) → AcceptedReading r → tt_of r ≡ Ok (tt_at (reading_index r) (reading_micros r))
 unfolding tt_of
-accepted_answered r e = none_answered Err (reading_cases r) _ (first_none (reading_cases r) tt e)
+accepted_answered r e = none_answered Err (reading_cases r) _ (first_none (reading_cases r) e)
 
 -- PROMISE. A reading that has one is accepted.
 pub answered_accepted : (r : Reading) (t : Instant) → tt_of r ≡ Ok t → AcceptedReading r
-answered_accepted r t e = none_answered (λ n. n) (reading_cases r) 0 (held_none r (answered_held r t e).0)
+answered_accepted r t e = none_answered number (reading_cases r) 0 (held_none r (answered_held r t e).0)
 
 -- PROMISE. The instant is accepted.
 pub tt_accepted : (r : Reading) (t : Instant) → tt_of r ≡ Ok t → IsAccepted t.day t.micros

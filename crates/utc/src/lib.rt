@@ -233,17 +233,17 @@ fn reading_on(i: u64, x: u64) -> Result<Reading, Refusal>
         return Err(Refusal::UtcExpired);
     }
     let begins = day_begins(i);
-    let time = if x < begins {
+    if x < begins {
         let eve = i - 1;
-        UtcTime {
+        let time = UtcTime {
             index: eve,
             micros: x - day_begins(eve),
-        }
-    } else {
-        UtcTime {
-            index: i,
-            micros: x - begins,
-        }
+        };
+        return Ok(time.reading());
+    }
+    let time = UtcTime {
+        index: i,
+        micros: x - begins,
     };
     Ok(time.reading())
 }

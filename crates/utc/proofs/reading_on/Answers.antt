@@ -15,8 +15,8 @@ unfolding reading_answer
 returns-then-x-ge-EXPIRY_MOMENT c =
     rw (first_begins, expiry_begins, le-ltb _ _ c.if-x-lt-FIRST_MOMENT.false, le-leb _ _ c.if-x-ge-EXPIRY_MOMENT.true)
 
-pub overflow_sub-x : goal.overflow_sub-x
-overflow_sub-x c =
+pub overflow_sub-time : goal.overflow_sub-time
+overflow_sub-time c =
     let late : 1 ≤ c.args.i = omega (arith, c.requires.to, c.if-x-lt-FIRST_MOMENT.false) in
     omega (arith, c.day_begins.ensures, begins_to (c.args.i - 1), late, c.requires.from)
 
@@ -32,7 +32,7 @@ returns-then-x-begins c =
       lt-ltb _ _ c.if-x-begins.true,
       ← c.day_begins.ensures,
     )
-    (ap Ok c.reading_at.ensures)
+    (ap Ok c.reading.ensures)
 
 pub returns : goal.returns
 unfolding reading_answer
@@ -46,4 +46,4 @@ returns c =
       le-ltb _ _ c.if-x-begins.false,
       ← c.day_begins-begins.ensures,
     )
-    (ap Ok c.reading_at-2.ensures)
+    (ap Ok c.reading-2.ensures)

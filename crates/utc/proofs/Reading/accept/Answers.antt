@@ -1,5 +1,6 @@
 -- The date's cases stand before those of the time, and both before those of the list, so the code may hand refusals on.
-use Rattle.std.proofs.Common.{◌≡◌, refl, ◌∙◌, ap, sym, arith, ℕ}
+use Rattle.std.proofs.Common.{◌≡◌, refl, ◌∙◌, ap, sym, arith, rules, ℕ}
+use Rattle.std.proofs.lemmas.Result.{err_from_is_err_and}
 use Rattle.instants.specs.Refusals.{refused_or}
 use Rattle.instants.proofs.FirstRefusal.{handed_on}
 use Rattle.calendar.specs.Dates.{date_cases}
@@ -9,12 +10,12 @@ use Rattle.calendar.proofs.Inverse.{date_at}
 use Rattle.utc.specs.Readings.{reading_index, last_second}
 use Rattle.utc.specs.Inner.{covered_time, reading_acceptance}
 use Rattle.utc.specs.declared.Reading.{Reading}
-use Rattle.utc.proofs.accept.Goals as goal
+use Rattle.utc.proofs.Reading.accept.Goals as goal
 use Rattle.std.specs.Prelude.{Result, Ok, Err}
 use Rattle.utc.specs.declared.UtcTime.{UtcTime}
 use Rattle.instants.specs.declared.refusal.Refusal.{Refusal}
 
--- the matches of the code
+-- the answer by those of the acceptances
 abbrev on_day : ℕ → Result ℕ Refusal → Result UtcTime Refusal
 on_day i (Ok u) = covered_time i u
 on_day i (Err k) = Err k
@@ -34,14 +35,25 @@ matched r =
     ∙ ap (refused_or Err (date_cases r.year r.month r.day)) (handed_on Err (on_day (reading_index r)) (λ k. refl) times _)
 
 pub last_second-requires : goal.last_second-requires
-last_second-requires c = omega (arith, (date_at _ _ _ _ (sym c.in-Accepted.ensures)).high)
+last_second-requires c =
+    let e : c.accept.result ≡ Ok c.in_ok-index.index = search rules in
+    omega (arith, (date_at _ _ _ _ (sym c.accept.ensures ∙ e)).high)
 
-pub returns-in-NotAccepted : goal.returns-in-NotAccepted
-returns-in-NotAccepted c = rw (← matched, ← c.in-NotAccepted.ensures) refl
+pub returns-in_err-index : goal.returns-in_err-index
+returns-in_err-index c =
+    let p = err_from_is_err_and c.from_residual.result c.from_residual.ensures.1 in
+    let e : c.accept.result ≡ Err c.in_err-index.field-0.0 = search rules in
+    rw (← matched, ← c.accept.ensures, e, p.1, p.2) refl
 
-pub returns-in-NotAccepted-accept_time : goal.returns-in-NotAccepted-accept_time
-returns-in-NotAccepted-accept_time c = rw (← matched, ← c.in-Accepted.ensures, ← c.last_second.ensures.second, ← c.in-NotAccepted-accept_time.ensures) refl
+pub returns-in_err-micros : goal.returns-in_err-micros
+returns-in_err-micros c =
+    let p = err_from_is_err_and c.from_residual-in_err-micros.result c.from_residual-in_err-micros.ensures.1 in
+    let e : c.accept.result ≡ Ok c.in_ok-index.index = search rules in
+    let f : c.accept-2.result ≡ Err c.in_err-micros.field-0.0 = search rules in
+    rw (← matched, ← c.accept.ensures, e, ← c.last_second.ensures.second, ← c.accept-2.ensures, f, p.1, p.2) refl
 
-pub returns-in-Accepted-accept_time : goal.returns-in-Accepted-accept_time
-returns-in-Accepted-accept_time c =
-    rw (← matched, ← c.in-Accepted.ensures, ← c.last_second.ensures.second, ← c.in-Accepted-accept_time.ensures) c.covered.ensures
+pub returns : goal.returns
+returns c =
+    let e : c.accept.result ≡ Ok c.in_ok-index.index = search rules in
+    let f : c.accept-2.result ≡ Ok c.in_ok-micros.micros = search rules in
+    rw (← matched, ← c.accept.ensures, e, ← c.last_second.ensures.second, ← c.accept-2.ensures, f) c.covered.ensures
