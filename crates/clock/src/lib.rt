@@ -26,10 +26,10 @@ pub struct ClockWords {
 pub fn split(t: Instant) -> Result<ClockWords, Refusal>
     ensures { result ≡ split_of t.day t.micros }
 {
-    let i = t.accept()?;
+    let index = t.accept()?;
     Ok(ClockWords {
         day: t.day,
-        time: t.micros + (i + MARK_SHIFT) % MARKS * MARK_UNIT,
+        time: t.micros + (index + MARK_SHIFT) % MARKS * MARK_UNIT,
     })
 }
 
