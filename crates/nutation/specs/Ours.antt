@@ -4,7 +4,7 @@
 use Rattle.std.specs.Prelude.{List, ℕ, ◌*◌, ◌-◌, ◌/◌, ◌%◌, ◌^◌, ℤ, pos, neg_ℤ, ◌+ℤ◌, ◌-ℤ◌, ◌*ℤ◌, Result, Ok, Err}
 use Rattle.std.specs.Int.Signed.{shr_z}
 use Rattle.algebra.specs.Integers.{+◌}
-use Rattle.instants.specs.Refusals.{refused_or}
+use Rattle.instants.specs.Refusals.{refused_or, refusal_of}
 use Rattle.instants.specs.Instants.{instant_cases}
 use Rattle.instants.specs.Moments.{moment_of}
 use Rattle.sine.specs.Ours.{our_sine, our_cosine}
@@ -118,5 +118,4 @@ uncertainty_of = uncertainty_or 0
 
 -- the refusal number, 0 for none
 abbrev pub nutation_refusal_of : Result Offsets Refusal → ℕ
-nutation_refusal_of (Ok o) = 0
-nutation_refusal_of (Err r) = r
+nutation_refusal_of = refusal_of

@@ -6,40 +6,32 @@
 ghost use Rattle.std.specs.Prelude.{◌≡◌, ℕ, ◌*◌, ◌/◌, ◌^◌, ◌≤◌, ◌<◌};
 ghost use Rattle.instants.specs.Limits.{day_micros};
 ghost use Rattle.instants.specs.Moments.{latest};
-ghost use Rattle.algebra.specs.Integers.{dist};
 ghost use Rattle.rows.specs.Table.{largest};
 ghost use Rattle.rows.specs.declared.Place.TheVariants.{End, Between};
 ghost use Rattle.rows.specs.Inner.{AcceptedRow, Placed};
 ghost use Rattle.row_bytes.specs.Form.{table_in};
-ghost use Rattle.row_bytes.specs.Inner.{Lent};
 ghost use Rattle.nutation.specs.Exact.{round_up, uncertainty_at};
 ghost use Rattle.nutation.specs.Ours.{our_angle, mixed, offset, offsets_at, nutation_with, nutation_of, nutation_rows_of};
 ghost use Rattle.nutation.specs.Inner.{amplitudes, OnTheWay, MixBounds, OffsetBounds, twice_between};
 
-use instants::{Acceptance, DAY_MICROS};
+use instants::{DAY_MICROS, Instant, Refusal};
+use row_bytes::Table;
 use rows::{Place, Row};
 use sine::TURN;
 
 // The amplitudes at a moment, in units of 2^-10 hundredths of a microarcsecond.
-#[derive(Drop)]
+#[derive(Clone, Copy)]
 struct Amplitudes {
     xc: i64,
     xs: i64,
 }
 
 // The offsets and the uncertainty of each, in nanoarcseconds.
-#[derive(Drop)]
+#[derive(Clone, Copy)]
 pub struct Offsets {
     pub x: i64,
     pub y: i64,
     pub uncertainty: u64,
-}
-
-// The offsets, or a refusal number.
-#[derive(Drop)]
-pub enum NutationAnswer {
-    Nutation(Offsets),
-    NoNutation(u32),
 }
 
 // The angle at the moment 0 and 400 turns, and how far it goes back in a microsecond: in units of 2^-41 and of 2^-105 turn.
@@ -80,7 +72,7 @@ fn amplitudes_between(a: Row, b: Row, x: u64) -> Amplitudes
     requires { Placed (Between a b) x }
     ensures { result ≡ amplitudes (Between a b) x }
 {
-    let l = factor_of(b.day - a.day, x - rows::row_moment(a));
+    let l = factor_of(b.day - a.day, x - a.moment());
     Amplitudes {
         xc: mixed_of(a.xc, b.xc, l),
         xs: mixed_of(a.xs, b.xs, l),
@@ -121,17 +113,7 @@ fn round_up(n: u64, d: u64) -> u64
     requires divisor { d ≤ 2 ^ 62 }
     ensures { result ≡ round_up n d }
 {
-    (n + (d - 1)) / d
-}
-
-// The microseconds between two moments.
-fn apart(x: u64, y: u64) -> u64
-    ensures { result ≡ dist x y }
-{
-    if x < y {
-        return y - x;
-    }
-    x - y
+    n.div_ceil(d)
 }
 
 // Twice u at or outside an end, rounded up: 26.5 hundredths of a microarcsecond are 265 nanoarcseconds.
@@ -140,7 +122,7 @@ fn uncertainty_end(r: Row, x: u64) -> u64
     requires covered { x ≤ latest }
     ensures { result ≡ uncertainty_at (End r) x }
 {
-    20 * r.uncertainty + round_up(265 * apart(x, rows::row_moment(r)), DAY_MICROS)
+    20 * r.uncertainty + round_up(265 * x.abs_diff(r.moment()), DAY_MICROS)
 }
 
 // Twice what is between u and v, which are `days` apart, `after` microseconds after u, rounded up: whole days and the rest of a day apart, since the
@@ -166,7 +148,7 @@ fn uncertainty_between(a: Row, b: Row, x: u64) -> u64
         a.uncertainty,
         b.uncertainty,
         b.day - a.day,
-        x - rows::row_moment(a),
+        x - a.moment(),
     )
 }
 
@@ -199,35 +181,26 @@ fn offsets_of(p: Place, x: u64) -> Offsets
     }
 }
 
-// The service over the table in bytes that are lent: its offsets, or refusal 8 or 9.
-fn nutation_with(s: &[u8], day: i64, micros: u64) -> NutationAnswer
-    requires { Lent s.now }
-    ensures { result ≡ nutation_with (table_in s.now) day micros }
+// The service over a table: its offsets, or refusal 8 or 9.
+fn nutation_with(t: Table, at: Instant) -> Result<Offsets, Refusal>
+    ensures { result ≡ nutation_with (table_in t.entry.bytes.now) at.day at.micros }
 {
-    match instants::accept(day, micros) {
-        Acceptance::NotAccepted(n) => NutationAnswer::NoNutation(n),
-        Acceptance::Accepted(i) => {
-            let x = instants::moment(i, micros);
-            NutationAnswer::Nutation(offsets_of(row_places::place_at(s, x), x))
-        }
-    }
+    at.accept()?;
+    let x = at.moment();
+    Ok(offsets_of(row_places::place_at(t, x), x))
 }
 
 // With the built-in rows.
-pub fn nutation_of(day: i64, micros: u64) -> NutationAnswer
-    ensures { result ≡ nutation_of day micros }
+pub fn nutation_of(at: Instant) -> Result<Offsets, Refusal>
+    ensures { result ≡ nutation_of at.day at.micros }
 {
     let s = row_places::built_in();
-    nutation_with(&s, day, micros)
+    nutation_with(Table { bytes: &s }, at)
 }
 
 // With the rows in the bytes s, or refusal 21 to 24, then 8 or 9.
-pub fn nutation_rows_of(s: &[u8], day: i64, micros: u64) -> NutationAnswer
-    ensures { result ≡ nutation_rows_of s.now day micros }
+pub fn nutation_rows_of(s: &[u8], at: Instant) -> Result<Offsets, Refusal>
+    ensures { result ≡ nutation_rows_of s.now at.day at.micros }
 {
-    let n = row_bytes::refusal(s);
-    if n != 0 {
-        return NutationAnswer::NoNutation(n);
-    }
-    nutation_with(s, day, micros)
+    nutation_with(Table::read(s)?, at)
 }

@@ -37,18 +37,18 @@ none_formed s h = record {
 
 pub formed : (s : List ℕ) → form_refusal s ≡ 0 → Formed s
 unfolding form_refusal
-formed s e = none_formed s (first_none (form_cases s) tt e)
+formed s e = none_formed s (first_none (form_cases s) e)
 
 -- accepted bytes
 pub accepted_none : (s : List ℕ) → AcceptedBytes s → NoneApplies (bytes_cases s)
-accepted_none s e = first_none (bytes_cases s) tt e
+accepted_none s e = first_none (bytes_cases s) e
 
 pub accepted_form : (s : List ℕ) → AcceptedBytes s → Formed s
 accepted_form s e = none_formed s (none_both (form_cases s) (table_cases (table_in s)) (accepted_none s e)).0
 
 -- bytes are accepted when their form is right and their rows are accepted
 pub bytes_accepted : (s : List ℕ) → Formed s → AcceptedTable (table_in s) → AcceptedBytes s
-bytes_accepted s f a = none_answered (λ n. n) (bytes_cases s) 0 (
+bytes_accepted s f a = none_answered number (bytes_cases s) 0 (
   le-ltb (length s) head_length f.long,
   (
     ap not (eq-eqb (field_at s length_field) (length s) f.size),
@@ -98,4 +98,4 @@ module _ (s : List ℕ) where
 
   pub form_passed : form_refusal s ≡ 0 → bytes_refusal s ≡ first_refusal (table_cases (table_in s))
   unfolding form_refusal bytes_refusal
-  form_passed e = none_answered (λ n. n) (form_cases s) (first_refusal (table_cases (table_in s))) (first_none (form_cases s) tt e)
+  form_passed e = none_answered (λ n. n) (form_cases s) (first_refusal (table_cases (table_in s))) (first_none (form_cases s) e)

@@ -12,10 +12,6 @@ form_refusal s = first_refusal (form_cases s)
 unfoldable pub bytes_refusal : List ℕ → ℕ
 bytes_refusal s = first_refusal (bytes_cases s)
 
--- the number of four bytes, the highest first
-abbrev pub word_of : ℕ → ℕ → ℕ → ℕ → ℕ
-word_of a b c d = ((a * 256 + b) * 256 + c) * 256 + d
-
 -- the bytes s hold whole rows behind a head
 abbrev pub Whole : List ℕ → Type 0
 Whole s = length s ≡ form_length (row_count (length s))

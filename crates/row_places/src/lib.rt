@@ -3,18 +3,19 @@
 #![tactic(auto)]
 
 ghost use Rattle.std.specs.Prelude.{◌≡◌, ◌<◌, length};
+ghost use Rattle.std.specs.Result.{result_unwrap_or};
 ghost use Rattle.rows.specs.BuiltIn.{built_in};
 ghost use Rattle.rows.specs.Places.{place};
-ghost use Rattle.row_bytes.specs.Form.{row_count, table_bytes, table_in};
-ghost use Rattle.row_bytes.specs.Inner.{Lent};
-ghost use Rattle.row_places.specs.Lookup.{bracket, halving, lookup_of, probes_with, probes_of, probes_rows_of};
+ghost use Rattle.row_bytes.specs.Form.{table_bytes, table_in};
+ghost use Rattle.row_places.specs.Lookup.{bracket, halving, lookup_of, probes_of, probes_rows_of};
+ghost use Rattle.row_places.specs.Inner.{probes_answer, probes_rows_answer};
 
-use instants::Acceptance;
-use row_bytes::row_at;
-use rows::{Place, row_moment};
+use instants::{Instant, Refusal};
+use row_bytes::Table;
+use rows::Place;
 
 // The rows at two ends, as indices, and the probes that led to them.
-#[derive(Drop)]
+#[derive(Clone, Copy)]
 pub struct Bracket {
     pub lower: usize,
     pub upper: usize,
@@ -61,18 +62,18 @@ pub fn built_in() -> [u8; 483]
 }
 
 // What halving leaves of the first and the last row: the middle row is probed until the two are neighbours.
-fn halve(s: &[u8], x: u64, last: usize) -> Bracket
-    requires table { Lent s.now }
-    requires last { last < row_count (length s.now) }
-    ensures { result ≡ halving (table_in s.now) x (bracket 0 last 0) }
+// By hand, since `partition_point` says nothing of how many rows it probes, which `probes_of` promises.
+fn halve(t: Table, x: u64, last: usize) -> Bracket
+    requires { last < length (table_in t.bytes.now) }
+    ensures { result ≡ halving (table_in t.entry.bytes.now) x (bracket 0 last 0) }
 {
     let mut lower: usize = 0;
     let mut upper = last;
     let mut probes: u64 = 0;
     while lower + 1 < upper {
         let middle = (lower + upper) / 2;
-        probes = probes + 1;
-        if row_moment(row_at(s, middle)) <= x {
+        probes += 1;
+        if t.row(middle).moment() <= x {
             lower = middle;
         } else {
             upper = middle;
@@ -86,66 +87,60 @@ fn halve(s: &[u8], x: u64, last: usize) -> Bracket
 }
 
 // The lookup: the row of an end, or the two rows that a moment is between, and the probes that it took.
-fn lookup(s: &[u8], x: u64) -> Bracket
-    requires { Lent s.now }
-    ensures { result ≡ lookup_of (table_in s.now) x }
+fn lookup(t: Table, x: u64) -> Bracket
+    ensures { result ≡ lookup_of (table_in t.entry.bytes.now) x }
 {
-    if x <= row_moment(row_at(s, 0)) {
+    if x <= t.row(0).moment() {
         return Bracket {
             lower: 0,
             upper: 0,
             probes: 0,
         };
     }
-    let last = row_bytes::row_count(s.len()) - 1;
-    if row_moment(row_at(s, last)) <= x {
+    let last = t.count() - 1;
+    if t.row(last).moment() <= x {
         return Bracket {
             lower: last,
             upper: last,
             probes: 0,
         };
     }
-    halve(s, x, last)
+    halve(t, x, last)
 }
 
-// The place of a moment among the rows in bytes that are lent.
-pub fn place_at(s: &[u8], x: u64) -> Place
-    requires { Lent s.now }
-    ensures { result ≡ place (table_in s.now) x }
+// The place of a moment among the rows of a table.
+pub fn place_at(t: Table, x: u64) -> Place
+    ensures { result ≡ place (table_in t.entry.bytes.now) x }
 {
-    let b = lookup(s, x);
-    let lower = row_at(s, b.lower);
+    let b = lookup(t, x);
+    let lower = t.row(b.lower);
     if b.lower == b.upper {
         return Place::End(lower);
     }
-    Place::Between(lower, row_at(s, b.upper))
+    Place::Between(lower, t.row(b.upper))
 }
 
-// The probes at an instant among the rows in bytes that are lent, or 0 beside refusal 8 or 9.
-fn probes_with(s: &[u8], day: i64, micros: u64) -> u64
-    requires { Lent s.now }
-    ensures { result ≡ probes_with (table_in s.now) day micros }
+// The probes at an instant among the rows of a table, or refusal 8 or 9.
+fn probes_with(t: Table, at: Instant) -> Result<u64, Refusal>
+    ensures { result ≡ probes_answer (table_in t.entry.bytes.now) at.day at.micros }
 {
-    match instants::accept(day, micros) {
-        Acceptance::NotAccepted(_) => 0,
-        Acceptance::Accepted(i) => lookup(s, instants::moment(i, micros)).probes,
-    }
+    at.accept()?;
+    Ok(lookup(t, at.moment()).probes)
 }
 
-// The probes at an instant with the built-in rows, or 0 beside refusal 8 or 9.
-pub fn probes_of(day: i64, micros: u64) -> u64
-    ensures { result ≡ probes_of day micros }
+// The probes at an instant with the built-in rows, or refusal 8 or 9.
+pub fn probes_of(at: Instant) -> Result<u64, Refusal>
+    ensures answer { result ≡ probes_answer built_in at.day at.micros }
+    ensures number { result_unwrap_or result 0 ≡ probes_of at.day at.micros }
 {
     let s = built_in();
-    probes_with(&s, day, micros)
+    probes_with(Table { bytes: &s }, at)
 }
 
-// The probes at an instant with the rows in the bytes s, or 0 beside refusals 21 to 24, 8 and 9.
-pub fn probes_rows_of(s: &[u8], day: i64, micros: u64) -> u64
-    ensures { result ≡ probes_rows_of s.now day micros }
+// The probes at an instant with the rows in the bytes s, or refusal 21 to 24, then 8 or 9.
+pub fn probes_rows_of(s: &[u8], at: Instant) -> Result<u64, Refusal>
+    ensures answer { result ≡ probes_rows_answer s.now at.day at.micros }
+    ensures number { result_unwrap_or result 0 ≡ probes_rows_of s.now at.day at.micros }
 {
-    if row_bytes::refusal(s) != 0 {
-        return 0;
-    }
-    probes_with(s, day, micros)
+    probes_with(Table::read(s)?, at)
 }
