@@ -1,6 +1,9 @@
 -- What only the contracts of the code's own functions cite, here, in calendar and in run.
-use Rattle.std.specs.Prelude.{ℕ, ◌^◌, ◌<◌, cond, ℤ, Option, Some, None}
-use Rattle.instants.specs.Instants.{instant, outside, day_index, IsAccepted, later_day, later_micros}
+use Rattle.std.specs.Prelude.{ℕ, ◌^◌, ◌<◌, cond, ℤ, Option, Some, None, Result, Ok, Err}
+use Rattle.instants.specs.Refusals.{refused_or}
+use Rattle.instants.specs.Moments.{moment_of}
+use Rattle.instants.specs.declared.refusal.Refusal.{Refusal}
+use Rattle.instants.specs.Instants.{instant, instant_cases, outside, day_index, IsAccepted, later_day, later_micros}
 use Rattle.instants.specs.declared.Instant.{Instant}
 
 -- indices below this, far more than the range has, are turned into dates and day numbers
@@ -19,3 +22,7 @@ later_instant d m t = instant (later_day d m t) (later_micros m t)
 pub record LaterBounds (d : ℤ) (m t : ℕ) : Type 0 where
   pub accepted : IsAccepted d m
   pub few : t < 2 ^ 62
+
+-- the moment of an accepted instant, or its refusal
+unfoldable pub moment_answer : ℤ → ℕ → Result ℕ Refusal
+moment_answer d m = refused_or Err (instant_cases d m) (Ok (moment_of d m))

@@ -1,14 +1,16 @@
 // Instants of Terrestrial Time: which are accepted, the instant some microseconds later, and the one number of microseconds that the sums count in.
 #![tactic(auto)]
 
+mod covered;
 mod refusal;
 
 ghost use Rattle.std.specs.Prelude.{◌≡◌, ◌<◌};
 ghost use Rattle.instants.specs.Limits.{day_micros, days_covered};
 ghost use Rattle.instants.specs.Instants.{day_at_index, acceptance, IsAccepted};
 ghost use Rattle.instants.specs.Moments as moments;
-ghost use Rattle.instants.specs.Inner.{index_limit, index_answer, later_instant, LaterBounds};
+ghost use Rattle.instants.specs.Inner.{index_limit, index_answer, moment_answer, later_instant, LaterBounds};
 
+pub use covered::Moment;
 pub use refusal::Refusal;
 
 // The day numbers of 1900-01-01 and 2100-12-31.
@@ -65,6 +67,13 @@ impl Instant {
             return Err(Refusal::Micros);
         }
         Ok(index)
+    }
+
+    // The moment of an accepted instant, or refusal 8 or 9.
+    pub fn accepted(self) -> Result<Moment, Refusal>
+        ensures { result ≡ moment_answer self.day self.micros }
+    {
+        Ok(Moment::new(moment(self.accept()?, self.micros)))
     }
 
     // The instant t microseconds after an accepted one.
