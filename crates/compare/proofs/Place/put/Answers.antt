@@ -7,7 +7,7 @@ use Rattle.compare.specs.Walk.{first_only, second_only, alone, changed, same_num
 use Rattle.compare.specs.Inner.{record_at, here}
 use Rattle.compare.proofs.Entries.{one_room, one_put, none_put}
 use Rattle.compare.proofs.Steps.{first_found, second_found, found_reads, found_day, here_first, here_second, here_same, here_changed}
-use Rattle.compare.proofs.put_here.Goals as goal
+use Rattle.compare.proofs.Place.put.Goals as goal
 
 -- the records at a place, as the code read them
 module _ (s t : List ℕ) (p : Place) where
@@ -34,12 +34,12 @@ put_entry-requires-clause-day c = rw (c.alone.ensures, c.record_at.ensures) (fou
 
 pub put_entry-requires-clause-room : goal.put_entry-requires-clause-room
 put_entry-requires-clause-room c =
-    let e = first_listed c.args.s.now c.args.t.now c.args.p c.record_at.ensures c.alone.ensures c.if-p.true in
+    let e = first_listed c.args.s.now c.args.t.now c.args.self c.record_at.ensures c.alone.ensures c.if-p.true in
     one_room _ _ e _ c.requires.room
 
 pub returns-then-p-clause-size : goal.returns-then-p-clause-size
 returns-then-p-clause-size c =
-    let e = first_listed c.args.s.now c.args.t.now c.args.p c.record_at.ensures c.alone.ensures c.if-p.true in
+    let e = first_listed c.args.s.now c.args.t.now c.args.self c.record_at.ensures c.alone.ensures c.if-p.true in
     (one_put _ _ e _ _ _ c.put_entry.ensures.size c.put_entry.ensures.list).0
 
 -- ---- in the second only
@@ -52,12 +52,12 @@ put_entry-requires-then-p-2-clause-day c = rw (c.alone-then-p-2.ensures, c.recor
 
 pub put_entry-requires-then-p-2-clause-room : goal.put_entry-requires-then-p-2-clause-room
 put_entry-requires-then-p-2-clause-room c =
-    let e = second_listed c.args.s.now c.args.t.now c.args.p c.record_at-then-p-2.ensures c.alone-then-p-2.ensures c.if-p-2.true in
+    let e = second_listed c.args.s.now c.args.t.now c.args.self c.record_at-then-p-2.ensures c.alone-then-p-2.ensures c.if-p-2.true in
     one_room _ _ e _ c.requires.room
 
 pub returns-then-p-2-clause-size : goal.returns-then-p-2-clause-size
 returns-then-p-2-clause-size c =
-    let e = second_listed c.args.s.now c.args.t.now c.args.p c.record_at-then-p-2.ensures c.alone-then-p-2.ensures c.if-p-2.true in
+    let e = second_listed c.args.s.now c.args.t.now c.args.self c.record_at-then-p-2.ensures c.alone-then-p-2.ensures c.if-p-2.true in
     (one_put _ _ e _ _ _ c.put_entry-then-p-2.ensures.size c.put_entry-then-p-2.ensures.list).0
 
 -- ---- in both
@@ -72,20 +72,20 @@ pub returns-then-same_numbers-clause-list : goal.returns-then-same_numbers-claus
 returns-then-same_numbers-clause-list c =
     let s = c.args.s.now in
     let t = c.args.t.now in
-    let e = same s t c.args.p c.record_at-r.ensures c.record_at-q.ensures c.same_numbers.ensures c.if-same_numbers.true in
-    (none_put _ _ (here_same s t c.args.p c.if-p.false c.if-p-2.false e)).1
+    let e = same s t c.args.self c.record_at-r.ensures c.record_at-q.ensures c.same_numbers.ensures c.if-same_numbers.true in
+    (none_put _ _ (here_same s t c.args.self c.if-p.false c.if-p-2.false e)).1
 
 pub put_entry-requires-2-clause-day : goal.put_entry-requires-2-clause-day
 put_entry-requires-2-clause-day c = rw (c.changed.ensures, c.record_at-r.ensures) (found_day (first_found c.requires.going c.if-p-2.false))
 
 pub put_entry-requires-2-clause-room : goal.put_entry-requires-2-clause-room
 put_entry-requires-2-clause-room c =
-    let listed = changed_listed c.args.s.now c.args.t.now c.args.p c.record_at-r.ensures c.record_at-q.ensures c.same_numbers.ensures in
+    let listed = changed_listed c.args.s.now c.args.t.now c.args.self c.record_at-r.ensures c.record_at-q.ensures c.same_numbers.ensures in
     let e = listed c.if-same_numbers.false c.changed.ensures c.if-p.false c.if-p-2.false in
     one_room _ _ e _ c.requires.room
 
 pub returns-clause-size : goal.returns-clause-size
 returns-clause-size c =
-    let listed = changed_listed c.args.s.now c.args.t.now c.args.p c.record_at-r.ensures c.record_at-q.ensures c.same_numbers.ensures in
+    let listed = changed_listed c.args.s.now c.args.t.now c.args.self c.record_at-r.ensures c.record_at-q.ensures c.same_numbers.ensures in
     let e = listed c.if-same_numbers.false c.changed.ensures c.if-p.false c.if-p-2.false in
     (one_put _ _ e _ _ _ c.put_entry-2.ensures.size c.put_entry-2.ensures.list).0
