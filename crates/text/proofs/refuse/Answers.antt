@@ -1,5 +1,6 @@
 -- The word with the numeral behind it, and a newline, are put one behind the other.
-use Rattle.std.proofs.Common.{◌≡◌, ℕ, ◌+◌, List, [], ◌∷◌, ◌++◌, length, append_assoc, arith, length-append}
+use Rattle.std.proofs.Common.{◌≡◌, ℕ, ◌+◌, ap, ◌∙◌, List, [], ◌∷◌, ◌++◌, length, append_assoc, arith, length-append}
+use Rattle.instants.specs.Refusals.{number}
 use Rattle.text.specs.Text.{ascii, numeral, refusal_text}
 use Rattle.text.proofs.Numerals.{refusal_length, numeral_most}
 use Rattle.text.proofs.Pieces.{put_length, byte_put}
@@ -17,25 +18,29 @@ pieces : (n : ℕ) → counted n ++ 10 ∷ [] ≡ refusal_text n
 unfolding refusal_text
 pieces n = append_assoc (ascii "refused ") (numeral n) (10 ∷ [])
 
+-- the length of the text, by the number that is put
+size : (n m : ℕ) → n ≡ m → length (refusal_text m) ≡ length (counted n) + 1
+size n m e = rw e (omega (arith, refusal_length m, counted_length m))
+
 pub put_counted-end-requires : goal.put_counted-end-requires
-put_counted-end-requires c = omega (arith, refusal_length c.args.number, counted_length c.args.number)
+put_counted-end-requires c = omega (arith, size _ _ (c.from-2.ensures ∙ c.from.ensures))
 
 pub bounds-buffer-end : goal.bounds-buffer-end
 bounds-buffer-end c =
-    let n = c.args.number in
     let e = c.put_counted-end.ensures in
-    let k = put_length _ _ _ _ (e.size, e.buffer) (omega (arith, refusal_length n, counted_length n)) in
-    omega (arith, k, refusal_length n, counted_length n)
+    let k = put_length _ _ _ _ (e.size, e.buffer) (omega (arith, size _ _ (c.from-2.ensures ∙ c.from.ensures))) in
+    omega (arith, k, size _ _ (c.from-2.ensures ∙ c.from.ensures))
 
 pub overflow_add-result : goal.overflow_add-result
-overflow_add-result c = omega (arith, counted_length c.args.number, numeral_most c.args.number)
+overflow_add-result c = omega (arith, counted_length c.from-2.result, numeral_most c.from-2.result)
 
 pub returns-clause-size : goal.returns-clause-size
-returns-clause-size c = omega (arith, refusal_length c.args.number, counted_length c.args.number)
+returns-clause-size c = omega (arith, size _ _ (c.from-2.ensures ∙ c.from.ensures))
 
 pub returns-clause-buffer : goal.returns-clause-buffer
 returns-clause-buffer c =
-    let n = c.args.number in
     let e = c.put_counted-end.ensures in
-    let k = put_length _ _ _ _ (e.size, e.buffer) (omega (arith, refusal_length n, counted_length n)) in
-    rw (← pieces n) (byte_put _ _ _ _ (e.size, e.buffer) 10 (omega (arith, k, refusal_length n, counted_length n))).1
+    let k = put_length _ _ _ _ (e.size, e.buffer) (omega (arith, size _ _ (c.from-2.ensures ∙ c.from.ensures))) in
+    let p : counted c.from-2.result ++ 10 ∷ [] ≡ refusal_text (number c.args.refusal) =
+    pieces c.from-2.result ∙ ap refusal_text (c.from-2.ensures ∙ c.from.ensures) in
+    rw (← p) (byte_put _ _ _ _ (e.size, e.buffer) 10 (omega (arith, k, size _ _ (c.from-2.ensures ∙ c.from.ensures)))).1
