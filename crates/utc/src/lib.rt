@@ -73,13 +73,12 @@ fn steps_begun(t: &[u64], n: u64) -> usize
     t.iter().rposition(|from| *from <= n).map_or(0, |k| k + 1)
 }
 
-// TAI - UTC on the day of index n, in seconds. The table is named once, and lent.
+// TAI - UTC on the day of index n, in seconds.
 fn tai_minus_utc(n: u64) -> u64
     ensures seconds { result ≡ tai_minus_utc n }
     ensures most { result ≤ 37 }
 {
-    let t = STEPS;
-    FIRST_SECONDS + (steps_begun(&t, n) as u64)
+    FIRST_SECONDS + (steps_begun(&STEPS, n) as u64)
 }
 
 // The last second of a minute of the day of index n: 60 in its last minute, where the next day has a second more of TAI - UTC.
@@ -114,11 +113,7 @@ fn day_begins(n: u64) -> u64
 fn minute_of_day(u: u64) -> u64
     ensures { result ≡ minute_of_day u }
 {
-    let minute = u / MINUTE_MICROS;
-    if minute < DAY_MINUTES {
-        return minute;
-    }
-    DAY_MINUTES - 1
+    (u / MINUTE_MICROS).min(DAY_MINUTES - 1)
 }
 
 impl UtcTime {
