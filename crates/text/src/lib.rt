@@ -3,7 +3,6 @@
 
 ghost use Rattle.std.specs.Prelude.{◌≡◌, ◌++◌, ◌≤◌, length};
 ghost use Rattle.bigendian.specs.Buffers.{at_front};
-ghost use Rattle.instants.specs.Refusals.{number};
 ghost use Rattle.text.specs.Text.{numeral, refusal_text};
 
 use instants::Refusal;
@@ -49,9 +48,9 @@ pub fn put_counted(word: &[u8], n: u64, buffer: &mut [u8]) -> usize
 
 // Puts a refusal's text at the front of the buffer and returns its length.
 pub fn refuse(refusal: Refusal, buffer: &mut [u8]) -> usize
-    requires { length (refusal_text (number refusal)) ≤ length buffer.old }
-    ensures size { result ≡ length (refusal_text (number refusal)) }
-    ensures buffer { buffer.new ≡ at_front (refusal_text (number refusal)) buffer.old }
+    requires { length (refusal_text refusal) ≤ length buffer.old }
+    ensures size { result ≡ length (refusal_text refusal) }
+    ensures buffer { buffer.new ≡ at_front (refusal_text refusal) buffer.old }
 {
     let end = put_counted(b"refused ", u64::from(u32::from(refusal)), buffer);
     buffer[end] = b'\n';
