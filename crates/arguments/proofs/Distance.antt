@@ -21,12 +21,11 @@ use Rattle.algebra.proofs.Order.{≼_refl, ≼-add, nat_of, pos_sub}
 use Rattle.algebra.proofs.Near.{near_as, near_refl}
 use Rattle.algebra.proofs.Floor.{floor_next}
 use Rattle.algebra.proofs.Turns.{Turns, turns_of, turns_wide, turns_left, turns_add, turns_scale, turns_removed, mod_is, remainder_less}
-use Rattle.arguments.specs.declared.Half.{Half}
+use Rattle.arguments.specs.declared.half.Half.{Half}
 use Rattle.arguments.specs.Table.{multipliers}
 use Rattle.instants.specs.Moments.{since_j2000, century, moment, latest, since}
 use Rattle.arguments.specs.Exact.{Polynomial, value, F1, F2, F3, F4, F5, turn, turn_parts, exact_arguments, combination, exact_row_angle}
 use Rattle.arguments.specs.Ours.{half_at, up₁, down₁, up₂, down₂, up₃, down₃, up₄, down₄, up₅, down₅, argument, our_arguments, column, columns, our_row_angle}
-use Rattle.arguments.proofs.Bounds.{argument_less}
 use Rattle.instants.proofs.Moments.{moment_le, moment_is}
 use Rattle.arguments.proofs.Quartic.{argument_error, argument_near}
 
@@ -125,6 +124,10 @@ argument_turns : (up down : Half) (p : Polynomial) (x : ℕ) → x ≤ latest
     → Turns (2 ^ 41) turn_parts (pos (argument up down x)) (value (pos century) p (pos x -ℤ pos 5 *ℤ pos century)) (argument_distance up down p)
 argument_turns up down p x b =
     one century turn latest (argument_distance up down p) up down p x b (floor_next (argument_error century turn latest up down p) (2 ^ 10 * turn_parts) (lit≤ tt))
+
+-- every argument is below a turn
+argument_less : (up down : Half) (x : ℕ) → argument up down x < 2 ^ 41
+argument_less up down x = Nat.mod-lt (half_at up x + (2 ^ 41 - half_at down x % 2 ^ 41)) (lit≤ tt)
 
 -- the five
 all_near : (x : ℕ) → x ≤ latest → All (2 ^ 41) turn_parts (our_arguments x) (exact_arguments (pos x -ℤ pos 5 *ℤ pos century)) argument_distances

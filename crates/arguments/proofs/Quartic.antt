@@ -15,7 +15,7 @@ use Rattle.algebra.specs.Near.{Near}
 use Rattle.algebra.proofs.Ring.{end, ◌▸◌, ◌▹◌, ring, quote, ring_n, quoteN}
 use Rattle.algebra.proofs.Order.{plus, minus, parts}
 use Rattle.algebra.proofs.Near.{ℕ-near, near_dist, near_as, near_add, near_scale, near_unscale}
-use Rattle.arguments.specs.declared.Half.{Half}
+use Rattle.arguments.specs.declared.half.Half.{Half}
 use Rattle.arguments.specs.Exact.{Polynomial, value}
 use Rattle.arguments.specs.Ours.{high, per_century, term₃, term₂, term₁, term₀, half_at}
 use Rattle.arguments.proofs.Floor.{high_error, high_near, step_error, step_near}

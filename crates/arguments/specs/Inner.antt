@@ -1,16 +1,11 @@
 -- What the code asks of its numbers so that nothing passes 64 bits.
-use Rattle.std.specs.Prelude.{◌≡◌, ℕ, ◌^◌, ◌≤◌, ◌<◌, ℤ, ◌≤ℤ◌}
+use Rattle.std.specs.Prelude.{◌^◌, ◌<◌, ℤ, ◌≤ℤ◌}
 use Rattle.algebra.specs.Integers.{+◌, −◌}
-use Rattle.arguments.specs.declared.Half.{Half}
-use Rattle.instants.specs.Moments.{latest}
-use Rattle.arguments.specs.Ours.{high, per_century}
+use Rattle.arguments.specs.declared.half.Half.{Half}
 
--- the time x, the same in centuries with 24 binary places, and the constants of a half
-pub record HalfBounds (x s : ℕ) (k : Half) : Type 0 where
-  pub time : x ≤ latest
-  pub centuries : s ≡ high x per_century
+-- the constants of a half, so that no product passes 64 bits
+pub record HalfBounds (k : Half) : Type 0 where
   pub start : k.a0 < 2 ^ 54
-  pub slope : k.g < 2 ^ 64
   pub second : k.k2 < 2 ^ 36
   pub third : k.k3 < 2 ^ 27
   pub fourth : k.k4 < 2 ^ 19

@@ -3,7 +3,7 @@
 -- Derived from the IERS routines TDFRPH (the arguments) and RG_ZONT2 (the rows); not IERS Conventions software (NOTICE, docs/DIFFERENCES.md).
 use Rattle.std.specs.Prelude.{List, [], ◌∷◌, ℕ, ◌+◌, ◌*◌, ◌-◌, ◌/◌, ◌%◌, ◌^◌, ℤ, ◌+ℤ◌, nat_abs, get_or}
 use Rattle.algebra.specs.Integers.{+◌}
-use Rattle.arguments.specs.declared.Half.{Half}
+use Rattle.arguments.specs.declared.half.Half.{Half}
 use Rattle.arguments.specs.Table.{multipliers}
 
 -- the upper half of a product of two numbers of 64 bits

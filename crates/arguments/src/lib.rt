@@ -3,26 +3,23 @@
 // Derived from the IERS routines TDFRPH (the arguments) and RG_ZONT2 (the rows); not IERS Conventions software (NOTICE, docs/DIFFERENCES.md).
 #![tactic(auto)]
 
-ghost use Rattle.std.specs.Prelude.{◌≡◌, ℕ, ◌+◌, ◌*◌, ◌-◌, ◌/◌, ◌%◌, ◌^◌, ◌≤◌, ◌<◌, get_or, []};
-ghost use Rattle.arguments.specs.Table.{multipliers};
+mod argument;
+mod half;
+mod time;
+
+ghost use Rattle.std.specs.Prelude.{◌≡◌, ℕ, ◌*◌, ◌/◌, ◌%◌, ◌^◌, ◌≤◌, get_or, pos};
 ghost use Rattle.arguments.specs.Ours as ours;
 ghost use Rattle.instants.specs.Moments.{latest};
-ghost use Rattle.arguments.specs.Inner.{HalfBounds, Multiplier};
+ghost use Rattle.arguments.specs.Inner.{Multiplier};
+
+use argument::{D, F, L, L_PRIME, OMEGA};
+use time::Time;
 
 // A turn, in units of 2^-41 turn.
-const TURN: u64 = 1 << 41;
+pub(crate) const TURN: u64 = 1 << 41;
 
 // A unit of the upper half of a number of 64 bits.
 const UPPER: u64 = 1 << 32;
-
-// A century, in units of 2^-24 century.
-const CENTURY: u64 = 1 << 24;
-
-// A century, and six of the ten binary places that the constants from the second degree on have more than an angle.
-const CENTURY_SIX: u64 = 1 << 30;
-
-// A century, and the other four.
-const CENTURY_FOUR: u64 = 1 << 28;
 
 // The upper half of the product of two numbers of 64 bits, by halves of 32 bits.
 pub fn high(a: u64, b: u64) -> u64
@@ -37,121 +34,6 @@ pub fn high(a: u64, b: u64) -> u64
     a1 * b1 + middle / UPPER + next / UPPER
 }
 
-// The constants of one half of an argument: its coefficients over the turn, to nearest, from the degree 0 to the degree 4.
-// The first is in units of 2^-41 turn, the second of 2^-105 turn by microsecond, the others of 2^-51 turn.
-#[derive(Drop)]
-struct Half {
-    a0: u64,
-    g: u64,
-    k2: u64,
-    k3: u64,
-    k4: u64,
-}
-
-// One half of an argument at x, which is s in units of 2^-24 century: in units of 2^-41 turn.
-fn half_at(x: u64, s: u64, k: Half) -> u64
-    requires { HalfBounds x s k }
-    ensures value { result ≡ ours.half_at k x }
-    ensures below { result < 2 ^ 56 }
-{
-    let h3 = k.k3 + s * k.k4 / CENTURY;
-    let h2 = k.k2 + s * h3 / CENTURY;
-    let h1 = s * h2 / CENTURY_SIX;
-    k.a0 + high(x, k.g) + s * h1 / CENTURY_FOUR
-}
-
-// One argument, in units of 2^-41 turn, whole turns removed.
-fn argument(x: u64, s: u64, up: Half, down: Half) -> u64
-    requires up { HalfBounds x s up }
-    requires down { HalfBounds x s down }
-    ensures { result ≡ ours.argument up down x }
-{
-    let u = half_at(x, s, up);
-    let d = half_at(x, s, down);
-    (u + (TURN - d % TURN)) % TURN
-}
-
-// The halves of l, l', F, D and Omega.
-const UP_ONE: Half = Half {
-    a0: 0,
-    g: 17038933253433341313,
-    k2: 53980562968,
-    k3: 98222882,
-    k4: 0,
-};
-
-const DOWN_ONE: Half = Half {
-    a0: 14573777127753576,
-    g: 0,
-    k2: 0,
-    k3: 0,
-    k4: 425340,
-};
-
-const UP_TWO: Half = Half {
-    a0: 0,
-    g: 1285387697776969894,
-    k2: 0,
-    k3: 636759,
-    k4: 0,
-};
-
-const DOWN_TWO: Half = Half {
-    a0: 1097298715214116,
-    g: 0,
-    k2: 967734113,
-    k3: 0,
-    k4: 20016,
-};
-
-const UP_THREE: Half = Half {
-    a0: 0,
-    g: 17253287035876713286,
-    k2: 0,
-    k3: 0,
-    k4: 7506,
-};
-
-const DOWN_THREE: Half = Half {
-    a0: 14757381818728259,
-    g: 0,
-    k2: 22127051287,
-    k3: 1952185,
-    k4: 0,
-};
-
-const UP_FOUR: Half = Half {
-    a0: 0,
-    g: 15898776803187135809,
-    k2: 0,
-    k3: 12556286,
-    k4: 0,
-};
-
-const DOWN_FOUR: Half = Half {
-    a0: 13597524398099646,
-    g: 0,
-    k2: 11249004205,
-    k3: 0,
-    k4: 55044,
-};
-
-const UP_FIVE: Half = Half {
-    a0: 59836506886220,
-    g: 0,
-    k2: 12766736044,
-    k3: 15446096,
-    k4: 0,
-};
-
-const DOWN_FIVE: Half = Half {
-    a0: 0,
-    g: 69061302818403774,
-    k2: 0,
-    k3: 0,
-    k4: 103207,
-};
-
 // A microsecond, in units of 2^-88 century: 2^88 / N, to nearest, where N is the number of microseconds in a century.
 const PER_CENTURY: u64 = 98069881683;
 
@@ -160,14 +42,11 @@ pub fn arguments(x: u64) -> [u64; 5]
     requires { x ≤ latest }
     ensures { result ≡ ours.our_arguments x }
 {
-    let s = high(x, PER_CENTURY);
-    [
-        argument(x, s, UP_ONE, DOWN_ONE),
-        argument(x, s, UP_TWO, DOWN_TWO),
-        argument(x, s, UP_THREE, DOWN_THREE),
-        argument(x, s, UP_FOUR, DOWN_FOUR),
-        argument(x, s, UP_FIVE, DOWN_FIVE),
-    ]
+    let t = Time {
+        x,
+        s: high(x, PER_CENTURY),
+    };
+    [L.at(t), L_PRIME.at(t), F.at(t), D.at(t), OMEGA.at(t)]
 }
 
 // k times a, with two turns added so that nothing is negative.
@@ -180,18 +59,15 @@ fn column(k: i8, a: u64) -> u64
     (k + 2) as u64 * a + 2 * (TURN - a)
 }
 
-// The angle of a row, in units of 2^-41 turn, whole turns removed. The table of multipliers is lent, so that it is not made anew for each row.
-pub fn angle(t: &[[i8; 5]; 62], row: usize, a: [u64; 5]) -> u64
-    requires table { t.now ≡ multipliers }
-    requires row { row < 62 }
-    requires arguments { (j : ℕ) → get_or a j 0 ≤ 2 ^ 41 }
-    ensures { result ≡ ours.columns (get_or multipliers row []) a % 2 ^ 41 }
+// The angle of a row of multipliers, in units of 2^-41 turn, whole turns removed.
+pub fn angle(row: &[i8; 5], a: &[u64; 5]) -> u64
+    requires multipliers { (j : ℕ) → Multiplier (get_or row.now j (pos 0)) }
+    requires arguments { (j : ℕ) → get_or a.now j 0 ≤ 2 ^ 41 }
+    ensures { result ≡ ours.columns row.now a.now % 2 ^ 41 }
 {
     let mut sum: u64 = 0;
-    let mut j: usize = 0;
-    while j < 5 {
-        sum = sum + column(t[row][j], a[j]);
-        j = j + 1;
+    for (k, x) in row.iter().zip(a) {
+        sum += column(*k, *x);
     }
     sum % TURN
 }

@@ -80,35 +80,35 @@ fn years(k: u64) -> u64
     365 * k + (k + 3) / 4 + (k + 399) / 400 - (k + 99) / 100
 }
 
-// The days of the month m of the year y.
-fn month_length(y: u64, m: u64) -> u64
-    requires from { 1 ≤ m }
-    requires to { m ≤ 12 }
-    ensures days { result ≡ month_length y m }
-    ensures below { result < 32 }
-{
-    let i = (m - 1) as usize;
-    if m == 2 {
-        return 28 + leap(y);
-    }
-    LENGTHS[i]
-}
-
-// The days of the year y before its month m.
-fn before(y: u64, m: u64) -> u64
-    requires from { 1 ≤ m }
-    requires to { m ≤ 12 }
-    ensures days { result ≡ days_before y m }
-    ensures below { result < 366 }
-{
-    let i = (m - 1) as usize;
-    if m <= 2 {
-        return BEFORE[i];
-    }
-    BEFORE[i] + leap(y)
-}
-
 impl Date {
+    // The days of its month.
+    fn month_length(self) -> u64
+        requires from { 1 ≤ self.month }
+        requires to { self.month ≤ 12 }
+        ensures days { result ≡ month_length self.year self.month }
+        ensures below { result < 32 }
+    {
+        let i = (self.month - 1) as usize;
+        if self.month == 2 {
+            return 28 + leap(self.year);
+        }
+        LENGTHS[i]
+    }
+
+    // The days of its year before its month.
+    fn days_before(self) -> u64
+        requires from { 1 ≤ self.month }
+        requires to { self.month ≤ 12 }
+        ensures days { result ≡ days_before self.year self.month }
+        ensures below { result < 366 }
+    {
+        let i = (self.month - 1) as usize;
+        if self.month <= 2 {
+            return BEFORE[i];
+        }
+        BEFORE[i] + leap(self.year)
+    }
+
     // The index of an accepted date, or refusal 1, 2 or 3.
     #[tactic(auto, unfolding(crate::specs::Inner::date_acceptance))]
     pub fn accept(self) -> Result<u64, Refusal>
@@ -120,10 +120,10 @@ impl Date {
         if (self.month < 1) | (12 < self.month) {
             return Err(Refusal::Month);
         }
-        if (self.day < 1) | (month_length(self.year, self.month) < self.day) {
+        if (self.day < 1) | (self.month_length() < self.day) {
             return Err(Refusal::DayOfMonth);
         }
-        Ok(years(self.year - 1600) + before(self.year, self.month) + (self.day - 1))
+        Ok(years(self.year - 1600) + self.days_before() + (self.day - 1))
     }
 
     // The day number of a date, or refusal 1, 2 or 3.

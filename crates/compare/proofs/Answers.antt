@@ -4,24 +4,25 @@ use mathlib.Core.Path.{◌≡◌, refl, ap, ap₂, sym, ◌∙◌}
 use mathlib.Core.Bool.{Bool, true, false, cond, ◌&&◌, ◌||◌, true≢false}
 use mathlib.Core.List.{List, [], ◌∷◌, ◌++◌, append_assoc}
 use native.Mathlib.Omega.{arith}
-use native.Mathlib.Decide.{ℕ_discrete}
 use lib.Dec.{ltb}
 use lib.ListN.{length}
 use borrow.Author.Tests.{lt-ltb, le-ltb, ltb-false}
 use Rattle.bigendian.specs.Buffers.{at_front}
-use Rattle.instants.specs.Refusals.{Case, case, refused_or, first_refusal}
+use Rattle.instants.specs.Refusals.{Case, case, refused_or, check}
+use Rattle.instants.specs.declared.refusal.Refusal.{Refusal}
 use Rattle.instants.proofs.Accepted.{both_false}
 use Rattle.instants.proofs.Impossible.{impossible}
-use Rattle.instants.proofs.FirstRefusal.{NoneApplies, none_both, none_append, refused_append, refused_first, refused_alike, none_answered, answered_none}
-use Rattle.files.specs.Files.{FileAnswer, file_cases, wrong_length}
+use Rattle.instants.proofs.FirstRefusal.{NoneApplies, none_both, first_none, refused_append, refused_checked, refused_alike, none_answered, answered_none}
+use Rattle.record.specs.declared.Record.{Record}
+use Rattle.files.specs.Files.{file_cases, wrong_length}
 use Rattle.files.specs.Inner.{sound}
-use Rattle.files.proofs.Refused.{none_applies, applies_none, unrefused, file_is, file_short, records_few}
+use Rattle.files.proofs.Refused.{none_applies, applies_none, file_is, file_short, records_few}
 use Rattle.compare.specs.declared.Entry.{Entry}
 use Rattle.compare.specs.Walk.{walk}
 use Rattle.compare.specs.Compare.{records_of, entries_of, entry_length, list_bytes, compare_cases, compare_of, list_after}
 use Rattle.compare.specs.Inner.{records_from, count_of, files_refusal, Fits}
 use Rattle.compare.proofs.Walks.{walk_few}
-use Rattle.std.specs.Prelude.{Ok, Err, Some, None}
+use Rattle.std.specs.Prelude.{Result, Ok, Err, Some, None}
 use Rattle.instants.specs.declared.refusal.Refusal.TheVariants.{BufferShort}
 
 -- ---- two files
@@ -34,43 +35,14 @@ module _ (s t : List ℕ) where
   -- without a refusal of either none applies
   pub files_unrefused : files_refusal s t ≡ 0 → NoneApplies (file_cases s) × NoneApplies (file_cases t)
   unfolding files_refusal
-  files_unrefused z = by (ℕ_discrete (first_refusal (file_cases s)) 0)
-    where
-      split : first_refusal (file_cases s ++ file_cases t) ≡ refused_or (λ n. n) (file_cases s) (first_refusal (file_cases t))
-      split = refused_append (λ n. n) (file_cases s) (file_cases t) 0
-
-      by : Dec (first_refusal (file_cases s) ≡ 0) → NoneApplies (file_cases s) × NoneApplies (file_cases t)
-      by (no n) = absurd (n (sym (refused_first (λ k. k) (file_cases s) _ n) ∙ (sym split ∙ z)))
-      by (yes y) = let a = unrefused s y in (a, unrefused t (sym (none_answered (λ n. n) (file_cases s) _ a) ∙ (sym split ∙ z)))
+  files_unrefused z = none_both (file_cases s) (file_cases t) (first_none (file_cases s ++ file_cases t) z)
 
   -- with one the comparison has it
-  pub refused_files : (n : ℕ) → (files_refusal s t ≡ 0 → ⊥) → Err (files_refusal s t) ≡ compare_of s t n
-  unfolding files_refusal compare_of room
-  refused_files n h =
+  pub refused_files : (r : Refusal) (n : ℕ) → check (file_cases s ++ file_cases t) ≡ Err r → Err r ≡ compare_of s t n
+  unfolding compare_of room
+  refused_files r n e =
       sym (ap (λ (cs : List Case). refused_or Err cs (Ok (length (entries_of s t)))) (sym (append_assoc (file_cases s) (file_cases t) (room n)))
-      ∙ (refused_append Err (file_cases s ++ file_cases t) (room n) _ ∙ refused_first Err (file_cases s ++ file_cases t) _ h))
-
-  -- a refusal of 0 says that none applies
-  pub compared_none : (n : ℕ) → first_refusal (compare_cases s t n) ≡ 0 → NoneApplies (compare_cases s t n)
-  unfolding room files_refusal
-  compared_none n z = by (ℕ_discrete (files_refusal s t) 0)
-    where
-      split : first_refusal (compare_cases s t n) ≡ refused_or (λ k. k) (file_cases s ++ file_cases t) (first_refusal (room n))
-      split =
-          ap first_refusal (sym (append_assoc (file_cases s) (file_cases t) (room n)))
-          ∙ refused_append (λ k. k) (file_cases s ++ file_cases t) (room n) 0
-
-      listed : (b : Bool) → ◌≡◌ {A = ℕ} (cond b 12 0) 0 → b ≡ false
-      listed true e = absurd (omega (arith, e))
-      listed false e = refl
-
-      by : Dec (files_refusal s t ≡ 0) → NoneApplies (compare_cases s t n)
-      by (no h) = absurd (h (sym (refused_first (λ k. k) (file_cases s ++ file_cases t) _ h) ∙ (sym split ∙ z)))
-      by (yes y) =
-          let a = files_unrefused y in
-          let b = none_append (file_cases s) (file_cases t) a.0 a.1 in
-          let c = sym (none_answered (λ k. k) (file_cases s ++ file_cases t) _ b) ∙ (sym split ∙ z) in
-          none_append (file_cases s) (file_cases t ++ room n) a.0 (none_append (file_cases t) (room n) a.1 (listed _ c, tt))
+      ∙ (refused_append Err (file_cases s ++ file_cases t) (room n) _ ∙ refused_checked Err (file_cases s ++ file_cases t) _ r e))
 
   -- a wrong length has a refusal, and so has a file that is not sound
   pub length_refused : (wrong_length (length s) || wrong_length (length t)) ≡ true → files_refusal s t ≡ 0 → ⊥
@@ -90,7 +62,7 @@ module _ (s t : List ℕ) where
   module _ (a : NoneApplies (file_cases s)) (b : NoneApplies (file_cases t)) where
     pub entries_are : entries_of s t ≡ walk (records_from s 0) (records_from t 0)
     unfolding entries_of
-    entries_are = ap₂ (λ (f g : FileAnswer). walk (records_of f) (records_of g)) (file_is s a) (file_is t b)
+    entries_are = ap₂ (λ (f g : Result (List Record) Refusal). walk (records_of f) (records_of g)) (file_is s a) (file_is t b)
 
     -- at most one for each record
     pub entries_few : length (walk (records_from s 0) (records_from t 0)) ≤ 4368
@@ -140,10 +112,18 @@ module _ (s t : List ℕ) where
 
   -- ---- an answer that was given
 
+  -- a test of the same cases
+  pub test_refused : (n : ℕ) (r : Refusal) → compare_of s t n ≡ Err r → check (compare_cases s t n) ≡ Err r
+  unfolding compare_of
+  test_refused n r e = refused_alike Err Err (compare_cases s t n) _ _ r (λ m p. cc) (λ p. impossible (cc)) e
+
   module _ (n k : ℕ) (e : compare_of s t n ≡ Ok k) where
     none : NoneApplies (compare_cases s t n) × (Ok (length (entries_of s t)) ≡ Ok k)
     unfolding compare_of
     none = answered_none Err (compare_cases s t n) (Ok (length (entries_of s t))) (Ok k) (λ m p. impossible (cc)) e
+
+    pub test_passed : check (compare_cases s t n) ≡ Ok tt
+    test_passed = none_answered Err (compare_cases s t n) (Ok tt) none.0
 
     rest : NoneApplies (file_cases s) × NoneApplies (file_cases t ++ case BufferShort (ltb n (entry_length * length (entries_of s t))) ∷ [])
     rest = none_both (file_cases s) _ none.0
@@ -173,13 +153,13 @@ module _ (s t : List ℕ) where
 
 -- ---- the list afterwards
 
-module _ (s t old : List ℕ) (k : ℕ) where
-  pub list_given : compare_of s t (length old) ≡ Ok k → list_after s t old ≡ at_front (list_bytes (walk (records_from s 0) (records_from t 0))) old
+module _ (s t old : List ℕ) where
+  pub list_given : (k : ℕ) → compare_of s t (length old) ≡ Ok k → list_after s t old ≡ at_front (list_bytes (walk (records_from s 0) (records_from t 0))) old
   unfolding list_after
-  list_given e =
+  list_given k e =
       none_answered (λ _. old) (compare_cases s t (length old)) _ (none s t (length old) k e).0
       ∙ ap (λ (es : List Entry). at_front (list_bytes es) old) (entries_are s t (given_first s t _ k e) (given_second s t _ k e))
 
-  pub list_refused : compare_of s t (length old) ≡ Err k → list_after s t old ≡ old
+  pub list_refused : (r : Refusal) → compare_of s t (length old) ≡ Err r → list_after s t old ≡ old
   unfolding list_after compare_of
-  list_refused e = refused_alike Err (λ _. old) (compare_cases s t (length old)) _ _ k (λ m p. cc) (λ p. impossible (cc)) e
+  list_refused r e = refused_alike Err (λ _. old) (compare_cases s t (length old)) _ _ r (λ m p. cc) (λ p. impossible (cc)) e

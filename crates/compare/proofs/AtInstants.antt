@@ -15,7 +15,8 @@ use Rattle.files.specs.Claims.{Each, AcceptedRecord}
 use Rattle.instants.proofs.Order.{moment_one}
 use Rattle.files.proofs.Records.{both}
 use Rattle.compare.specs.declared.Entry.{Entry}
-use Rattle.compare.specs.Walk.{first_only, second_only, alone, changed, equal, same_numbers, differing, walk}
+use Rattle.compare.specs.declared.Side.TheVariants.{FirstOnly, SecondOnly}
+use Rattle.compare.specs.Walk.{alone, changed, equal, same_numbers, differing, walk}
 use Rattle.compare.specs.Claims.{Search, There, Nowhere, one_instant, record_of_instant, entry_of_instant}
 use Rattle.compare.proofs.Numbers.{equal_same, equal_is}
 use Rattle.compare.proofs.Walks.{walk_ind}
@@ -63,8 +64,8 @@ absent d m t l (r ∷ rs) a h =
 -- what is listed of what two files have there
 abbrev pub rule_of : Search Record → Search Record → Search Entry
 rule_of Nowhere Nowhere = Nowhere
-rule_of (There r) Nowhere = There (alone first_only r)
-rule_of Nowhere (There q) = There (alone second_only q)
+rule_of (There r) Nowhere = There (alone FirstOnly r)
+rule_of Nowhere (There q) = There (alone SecondOnly q)
 rule_of (There r) (There q) = cond (same_numbers r q) Nowhere (There (changed r q))
 
 module _ (d : ℤ) (m : ℕ) where
@@ -72,22 +73,22 @@ module _ (d : ℤ) (m : ℕ) where
   Ruled rs qs es = Rising rs → Rising qs → entry_of_instant d m es ≡ rule_of (record_of_instant d m rs) (record_of_instant d m qs)
 
   -- a record more in the first file
-  one_more : (r : Record) (rs qs : List Record) (es : List Entry) → starts_after (when r) qs ≡ true → Ruled rs qs es → Ruled (r ∷ rs) qs (alone first_only r ∷ es)
+  one_more : (r : Record) (rs qs : List Record) (es : List Entry) → starts_after (when r) qs ≡ true → Ruled rs qs es → Ruled (r ∷ rs) qs (alone FirstOnly r ∷ es)
   one_more r rs qs es a f g h = by (one_instant d m r.day r.micros) refl
     where
       by : (x : Bool) → one_instant d m r.day r.micros ≡ x
-          → cond x (There (alone first_only r)) (entry_of_instant d m es) ≡ rule_of (cond x (There r) (record_of_instant d m rs)) (record_of_instant d m qs)
+          → cond x (There (alone FirstOnly r)) (entry_of_instant d m es) ≡ rule_of (cond x (There r) (record_of_instant d m rs)) (record_of_instant d m qs)
       by true e =
           let i = one_is d m r.day r.micros e in
           sym (ap (λ (y : Search Record). rule_of (There r) y) (absent d m (when r) (omega (arith, ap₂ moment_of i.0 i.1)) qs a h.order))
       by false e = f (rising_rest r rs g) h
 
   -- in the second
-  other_more : (q : Record) (rs qs : List Record) (es : List Entry) → starts_after (when q) rs ≡ true → Ruled rs qs es → Ruled rs (q ∷ qs) (alone second_only q ∷ es)
+  other_more : (q : Record) (rs qs : List Record) (es : List Entry) → starts_after (when q) rs ≡ true → Ruled rs qs es → Ruled rs (q ∷ qs) (alone SecondOnly q ∷ es)
   other_more q rs qs es a f g h = by (one_instant d m q.day q.micros) refl
     where
       by : (x : Bool) → one_instant d m q.day q.micros ≡ x
-          → cond x (There (alone second_only q)) (entry_of_instant d m es) ≡ rule_of (record_of_instant d m rs) (cond x (There q) (record_of_instant d m qs))
+          → cond x (There (alone SecondOnly q)) (entry_of_instant d m es) ≡ rule_of (record_of_instant d m rs) (cond x (There q) (record_of_instant d m qs))
       by true e =
           let i = one_is d m q.day q.micros e in
           sym (ap (λ (y : Search Record). rule_of y (There q)) (absent d m (when q) (omega (arith, ap₂ moment_of i.0 i.1)) rs a g.order))

@@ -3,13 +3,13 @@ use Prim.Native.Nat.{ℕ, ◌*◌, ◌≤◌}
 use mathlib.Core.Path.{◌≡◌, refl, ap, sym, ◌∙◌}
 use mathlib.Core.List.{List, [], ◌∷◌, ◌++◌, append-nil, append_assoc}
 use native.Mathlib.Omega.{arith}
-use lib.ListN.{length, take, drop, replicate, length-append}
-use lib.Seq.{take_all}
+use lib.ListN.{length, replicate, length-append}
 use Rattle.bigendian.specs.Numbers.{twos_complement}
 use Rattle.bigendian.specs.Buffers.{at_front}
 use Rattle.bigendian.specs.Inner.{with_field}
-use Rattle.bigendian.proofs.Buffers.{front_none, front_copy}
+use Rattle.bigendian.proofs.Buffers.{front_none}
 use Rattle.compare.specs.declared.Entry.{Entry}
+use Rattle.compare.specs.Walk.{side_number}
 use Rattle.compare.specs.Compare.{entry_length, side_field, day_field, micros_field, ut1_field, lod_field, rate_field, entry_bytes, list_bytes}
 
 pub entry_length_lem : (e : Entry) → length (entry_bytes e) ≡ entry_length
@@ -24,31 +24,21 @@ pub list_append : (es fs : List Entry) → list_bytes (es ++ fs) ≡ list_bytes 
 list_append [] fs = refl
 list_append (e ∷ es) fs = ap (λ (l : List ℕ). entry_bytes e ++ l) (list_append es fs) ∙ sym (append_assoc (entry_bytes e) (list_bytes es) (list_bytes fs))
 
-pub all_fields : (e : Entry) (l₁ l₂ l₃ l₄ l₅ l₆ : List ℕ) (d a b c : ℕ)
-    → l₁ ≡ with_field (replicate entry_length 0) side_field e.side
+pub all_fields : (e : Entry) (l₁ l₂ l₃ l₄ l₅ l₆ : List ℕ) (n d a b c : ℕ)
+    → l₁ ≡ with_field (replicate entry_length 0) side_field n
     → l₂ ≡ with_field l₁ day_field d
     → l₃ ≡ with_field l₂ micros_field e.micros
     → l₄ ≡ with_field l₃ ut1_field a
     → l₅ ≡ with_field l₄ lod_field b
     → l₆ ≡ with_field l₅ rate_field c
+    → n ≡ side_number e.side
     → d ≡ twos_complement 4 e.day
     → a ≡ twos_complement 8 e.ut1
     → b ≡ twos_complement 8 e.lod
     → c ≡ twos_complement 8 e.rate
     → l₆ ≡ entry_bytes e
 unfolding entry_bytes
-all_fields e l₁ l₂ l₃ l₄ l₅ l₆ d a b c p₁ p₂ p₃ p₄ p₅ p₆ q₁ q₂ q₃ q₄ = rw (p₆, p₅, p₄, p₃, p₂, p₁, q₁, q₂, q₃, q₄) refl
-
--- all of l, which is an entry, is copied over the front of a list
-module _ (e : Entry) (l : List ℕ) (q : l ≡ entry_bytes e) where
-  whole : take entry_length l ≡ entry_bytes e
-  whole = take_all entry_length l (omega (arith, ap length q, entry_length_lem e)) ∙ q
-
-  pub copied_length : length (take entry_length l) ≡ entry_length
-  copied_length = ap length whole ∙ entry_length_lem e
-
-  pub copied : (old : List ℕ) → take (length (take entry_length l)) (take entry_length l) ++ drop (length (take entry_length l)) old ≡ at_front (entry_bytes e) old
-  copied old = front_copy (take entry_length l) old ∙ ap (λ (b : List ℕ). at_front b old) whole
+all_fields e l₁ l₂ l₃ l₄ l₅ l₆ n d a b c p₁ p₂ p₃ p₄ p₅ p₆ q q₁ q₂ q₃ q₄ = rw (p₆, p₅, p₄, p₃, p₂, p₁, q, q₁, q₂, q₃, q₄) refl
 
 -- ---- a list of one entry, or of none
 

@@ -13,7 +13,8 @@ use Rattle.files.specs.Claims.{Each, AcceptedRecord}
 use Rattle.instants.proofs.Order.{moment_one}
 use Rattle.files.proofs.Records.{both}
 use Rattle.compare.specs.declared.Entry.{Entry}
-use Rattle.compare.specs.Walk.{alone, first_only, second_only, changed, equal, same_numbers, differing, walk}
+use Rattle.compare.specs.declared.Side.TheVariants.{FirstOnly, SecondOnly}
+use Rattle.compare.specs.Walk.{alone, changed, equal, same_numbers, differing, walk}
 use Rattle.compare.specs.Claims.{exchanged}
 use Rattle.compare.proofs.Numbers.{equal_same, equal_is, equal_exchanged}
 use Rattle.compare.proofs.Walks.{walk_first, walk_second, walk_both, walk_none, walk_ind}
@@ -42,8 +43,8 @@ append_exchanged (e ∷ es) fs = ap (λ (l : List Entry). exchanged e ∷ l) (ap
 pub walk_exchanged : (rs qs : List Record) → Each AcceptedRecord rs → Each AcceptedRecord qs → walk qs rs ≡ map exchanged (walk rs qs)
 walk_exchanged = walk_ind (λ rs qs es. Each AcceptedRecord rs → Each AcceptedRecord qs → walk qs rs ≡ map exchanged es)
     (λ _ _. walk_none)
-    (λ r rs qs es a f g h. walk_second r qs rs a ∙ ap (λ (l : List Entry). alone second_only r ∷ l) (f g.1 h))
-    (λ q rs qs es a f g h. walk_first q qs rs a ∙ ap (λ (l : List Entry). alone first_only q ∷ l) (f g h.1))
+    (λ r rs qs es a f g h. walk_second r qs rs a ∙ ap (λ (l : List Entry). alone SecondOnly r ∷ l) (f g.1 h))
+    (λ q rs qs es a f g h. walk_first q qs rs a ∙ ap (λ (l : List Entry). alone FirstOnly q ∷ l) (f g h.1))
     (λ r q rs qs es w f g h.
     let i = moment_one r.day r.micros q.day q.micros g.0 h.0 w in
     walk_both q r qs rs (sym w) ∙ (ap₂ ◌++◌ (differing_exchanged r q i.0 i.1) (f g.1 h.1) ∙ sym (append_exchanged (differing r q) es)))

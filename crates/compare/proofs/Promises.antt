@@ -12,10 +12,10 @@ use lib.Signed.{lt_z, le_z}
 use Rattle.bigendian.proofs.Buffers.{front_is}
 use Rattle.instants.specs.Refusals.{first_refusal}
 use Rattle.instants.proofs.Impossible.{impossible}
-use Rattle.instants.proofs.FirstRefusal.{none_both, handed_on, none_answered, refused_first}
+use Rattle.instants.proofs.FirstRefusal.{none_both, first_none, handed_on, none_answered, refused_first, refused_same}
 use Rattle.record.specs.declared.Record.{Record}
-use Rattle.files.specs.Files.{answers_in, records_among, FileAnswer, IsFile, NoFile, file_of, file_cases, file_refusal_of}
-use Rattle.files.proofs.Refused.{file_refusal, unrefused, file_is}
+use Rattle.files.specs.Files.{answers_in, records_among, file_of, file_cases, file_refusal_of}
+use Rattle.files.proofs.Refused.{file_refusal, file_is}
 use Rattle.files.specs.Claims.{Each, AcceptedRecord}
 use Rattle.files.proofs.Records.{both, file_none, file_rises, file_recorded}
 use Rattle.compare.specs.declared.Entry.{Entry}
@@ -25,12 +25,13 @@ use Rattle.compare.specs.Inner.{records_from}
 use Rattle.compare.specs.Claims.{There, Nowhere, one_instant, record_of_instant, entry_of_instant, exchanged, listed}
 use Rattle.compare.proofs.Numbers.{equal_same, equal_is}
 use Rattle.compare.proofs.Entries.{list_length}
-use Rattle.compare.proofs.Answers.{compared_none, entries_few, long_enough}
+use Rattle.compare.proofs.Answers.{entries_few, long_enough}
 use Rattle.compare.proofs.AtInstants.{Rising, rule_of, one_is, listed_at}
 use Rattle.compare.proofs.Exchanges.{walk_exchanged, walk_same, walk_empty}
 use Rattle.compare.proofs.Rises.{walk_in_order, each_found}
 use Rattle.compare.proofs.ReadsBack.{walk_reads_back}
-use Rattle.std.specs.Prelude.{Ok, Err}
+use Rattle.std.specs.Prelude.{Result, Ok, Err}
+use Rattle.instants.specs.declared.refusal.Refusal.{Refusal}
 
 -- ---- the refusal, and what stands beside it
 
@@ -42,19 +43,19 @@ compare_refusal s t n = handed_on Err compare_refusal_of (λ k. refl) (compare_c
 -- PROMISE. Beside a refusal the number of entries is 0.
 pub compare_zeroed : (s t : List ℕ) (n : ℕ) → (compare_refusal_of (compare_of s t n) ≡ 0 → ⊥) → entries_number_of (compare_of s t n) ≡ 0
 unfolding compare_of
-compare_zeroed s t n h = ap entries_number_of (refused_first Err (compare_cases s t n) _ (λ z. h (compare_refusal s t n ∙ z)))
+compare_zeroed s t n h = ap entries_number_of (refused_first Err (compare_cases s t n) _ (λ z. h (compare_refusal s t n ∙ z))).refused
 
 -- PROMISE. And the list is as it was.
 pub compare_keeps : (s t list : List ℕ) → (compare_refusal_of (compare_of s t (length list)) ≡ 0 → ⊥) → list_after s t list ≡ list
 unfolding list_after
-compare_keeps s t list h = refused_first (λ _. list) (compare_cases s t (length list)) _ (λ z. h (compare_refusal s t (length list) ∙ z))
+compare_keeps s t list h = refused_same list (compare_cases s t (length list)) _ (λ z. h (compare_refusal s t (length list) ∙ z))
 
 -- ---- an answer
 
 -- without a refusal no case applies, and there is a number
 answered : (s t : List ℕ) (n : ℕ) → compare_refusal_of (compare_of s t n) ≡ 0 → compare_of s t n ≡ Ok (length (entries_of s t))
 unfolding compare_of
-answered s t n z = none_answered Err (compare_cases s t n) _ (compared_none s t n (sym (compare_refusal s t n) ∙ z))
+answered s t n z = none_answered Err (compare_cases s t n) _ (first_none _ (sym (compare_refusal s t n) ∙ z))
 
 -- PROMISE. Without a refusal the number is that of the entries.
 pub compare_number : (s t : List ℕ) (n : ℕ) → compare_refusal_of (compare_of s t n) ≡ 0 → entries_number_of (compare_of s t n) ≡ length (entries_of s t)
@@ -65,7 +66,7 @@ pub compare_list : (s t list : List ℕ) → compare_refusal_of (compare_of s t 
     → list_after s t list ≡ list_bytes (entries_of s t) ++ drop (entry_length * length (entries_of s t)) list
 unfolding list_after
 compare_list s t list z =
-    none_answered (λ _. list) (compare_cases s t (length list)) _ (compared_none s t (length list) (sym (compare_refusal s t (length list)) ∙ z))
+    none_answered (λ _. list) (compare_cases s t (length list)) _ (first_none _ (sym (compare_refusal s t (length list)) ∙ z))
     ∙ front_is (list_bytes (entries_of s t)) list _ (list_length (entries_of s t))
 
 -- ---- records
@@ -97,15 +98,15 @@ some_other r q n = by (same_numbers r q) refl
 -- ---- two files
 
 -- what a file has, and nothing beside a refusal
-rising_of : (s : List ℕ) (rs : List Record) → file_of s ≡ IsFile rs → Rising rs
+rising_of : (s : List ℕ) (rs : List Record) → file_of s ≡ Ok rs → Rising rs
 rising_of s rs e = record { order = file_rises s rs e; accepted = (file_recorded s rs e).accepted }
 
 accepted_of : (s : List ℕ) → Each AcceptedRecord (records_of (file_of s))
 accepted_of s = by (file_of s) refl
   where
-    by : (f : FileAnswer) → file_of s ≡ f → Each AcceptedRecord (records_of f)
-    by (IsFile rs) e = (file_recorded s rs e).accepted
-    by (NoFile n) e = tt
+    by : (f : Result (List Record) Refusal) → file_of s ≡ f → Each AcceptedRecord (records_of f)
+    by (Ok rs) e = (file_recorded s rs e).accepted
+    by (Err n) e = tt
 
 -- PROMISE. Exchanging the files negates every difference and exchanges the sides, entry by entry.
 pub entries_exchanged : (s t : List ℕ) → entries_of t s ≡ map exchanged (entries_of s t)
@@ -120,22 +121,22 @@ entries_same s = walk_same (records_of (file_of s))
 -- PROMISE. A file and itself are answered with no entry, whatever the list's room.
 pub same_compared : (s : List ℕ) (n : ℕ) → file_refusal_of (file_of s) ≡ 0 → compare_of s s n ≡ Ok 0
 same_compared s n z =
-    let a = unrefused s (sym (file_refusal s) ∙ z) in
+    let a = first_none (file_cases s) (sym (file_refusal s) ∙ z) in
     let e : length (walk (records_from s 0) (records_from s 0)) ≡ 0 = ap length (walk_same (records_from s 0)) in
     sym (long_enough s s a a n (omega (arith, e))) ∙ ap Ok e
 
 -- PROMISE. What is answered without a refusal are two files.
 pub compared_files : (s t : List ℕ) (n : ℕ) → compare_refusal_of (compare_of s t n) ≡ 0
-    → (file_of s ≡ IsFile (records_among (answers_in s))) × (file_of t ≡ IsFile (records_among (answers_in t)))
+    → (file_of s ≡ Ok (records_among (answers_in s))) × (file_of t ≡ Ok (records_among (answers_in t)))
 compared_files s t n z =
-    let c = none_both (file_cases s) _ (compared_none s t n (sym (compare_refusal s t n) ∙ z)) in
+    let c = none_both (file_cases s) _ (first_none _ (sym (compare_refusal s t n) ∙ z)) in
     (file_is s c.0, file_is t (none_both (file_cases t) _ c.1).0)
 
-module _ (s t : List ℕ) (rs qs : List Record) (a : file_of s ≡ IsFile rs) (b : file_of t ≡ IsFile qs) where
+module _ (s t : List ℕ) (rs qs : List Record) (a : file_of s ≡ Ok rs) (b : file_of t ≡ Ok qs) where
   -- PROMISE. The entries are those of the walk over the records.
   pub entries_walked : entries_of s t ≡ walk rs qs
   unfolding entries_of
-  entries_walked = ap₂ (λ (f g : FileAnswer). walk (records_of f) (records_of g)) a b
+  entries_walked = ap₂ (λ (f g : Result (List Record) Refusal). walk (records_of f) (records_of g)) a b
 
   -- PROMISE. Files of which nothing is listed have the same records.
   pub entries_empty : entries_of s t ≡ [] → rs ≡ qs

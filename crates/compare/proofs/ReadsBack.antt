@@ -15,17 +15,30 @@ use Rattle.record.specs.declared.Record.{Record}
 use Rattle.bigendian.specs.Fields.{field_at, signed_at}
 use Rattle.files.specs.Claims.{Each, AcceptedRecord, Fitting}
 use Rattle.compare.specs.declared.Entry.{Entry}
-use Rattle.compare.specs.Walk.{entry, alone, first_only, second_only, changed, same_numbers, walk}
+use Rattle.compare.specs.declared.Side.{Side}
+use Rattle.compare.specs.declared.Side.TheVariants.{FirstOnly, SecondOnly, InBoth}
+use Rattle.compare.specs.Walk.{side_number, side_of, alone, changed, same_numbers, walk}
 use Rattle.compare.specs.Compare.{entry_length, side_field, day_field, micros_field, ut1_field, lod_field, rate_field, entry_bytes, list_bytes}
 use Rattle.compare.specs.Claims.{entry_in, listed}
 use Rattle.compare.proofs.Entries.{entry_length_lem}
 use Rattle.compare.proofs.Numbers.{difference_fits}
 use Rattle.compare.proofs.Walks.{walk_ind}
 
+-- ---- a side's number is one byte, and tells the side
+
+side_fits : (s : Side) → side_number s < 256 ^ 1
+side_fits FirstOnly = omega arith
+side_fits SecondOnly = omega arith
+side_fits InBoth = omega arith
+
+side_known : (s : Side) → side_of (side_number s) ≡ s
+side_known FirstOnly = refl
+side_known SecondOnly = refl
+side_known InBoth = refl
+
 -- ---- an entry whose numbers fit their fields
 
 record FittingEntry (e : Entry) : Type 0 where
-  side : e.side < 256 ^ 1
   day : FitsBytes 4 e.day
   micros : e.micros < 256 ^ 8
   ut1 : FitsBytes 8 e.ut1
@@ -36,9 +49,9 @@ module _ (e : Entry) (t : List ℕ) (f : FittingEntry e) where
   abbrev l : List ℕ
   l = entry_bytes e ++ t
 
-  side_back : field_at l side_field ≡ e.side
+  side_back : side_of (field_at l side_field) ≡ e.side
   unfolding entry_bytes
-  side_back = number_back l side_field _ (record { starts = refl; is = refl }) f.side
+  side_back = ap side_of (number_back l side_field _ (record { starts = refl; is = refl }) (side_fits e.side)) ∙ side_known e.side
 
   day_back : signed_at l day_field ≡ e.day
   unfolding entry_bytes
@@ -63,7 +76,10 @@ module _ (e : Entry) (t : List ℕ) (f : FittingEntry e) where
   entry_back : entry_in l ≡ e
   entry_back = fields _ _ _ _ _ _ _ _ _ _ _ _ side_back day_back micros_back ut1_back lod_back rate_back
     where
-      fields : (s s' : ℕ) (d d' : ℤ) (m m' : ℕ) (x x' y y' z z' : ℤ) → s ≡ s' → d ≡ d' → m ≡ m' → x ≡ x' → y ≡ y' → z ≡ z' → entry s d m x y z ≡ entry s' d' m' x' y' z'
+      made : Side → ℤ → ℕ → (x y z : ℤ) → Entry
+      made s d m x y z = record { side = s; day = d; micros = m; ut1 = x; lod = y; rate = z }
+
+      fields : (s s' : Side) (d d' : ℤ) (m m' : ℕ) (x x' y y' z z' : ℤ) → s ≡ s' → d ≡ d' → m ≡ m' → x ≡ x' → y ≡ y' → z ≡ z' → made s d m x y z ≡ made s' d' m' x' y' z'
       fields s s' d d' m m' x x' y y' z z' o p q u v w = rw (o, p, q, u, v, w) refl
 
 -- entries, one behind the other, with anything behind them
@@ -76,9 +92,8 @@ list_back (e ∷ es) t h =
 
 -- ---- the entries of a walk
 
-alone_fits : (side : ℕ) (r : Record) → side < 256 → AcceptedRecord r → Fitting r → FittingEntry (alone side r)
-alone_fits side r h a f = record {
-  side = omega (arith, h);
+alone_fits : (side : Side) (r : Record) → AcceptedRecord r → Fitting r → FittingEntry (alone side r)
+alone_fits side r a f = record {
   day = omega (arith, f.day.sfits);
   micros = omega (arith, (accepted_at r.day r.micros (day_index r.day) a).less);
   ut1 = omega arith;
@@ -88,7 +103,6 @@ alone_fits side r h a f = record {
 
 changed_fits : (r q : Record) → AcceptedRecord r → Fitting r → Fitting q → FittingEntry (changed r q)
 changed_fits r q a f g = record {
-  side = omega arith;
   day = omega (arith, f.day.sfits);
   micros = omega (arith, (accepted_at r.day r.micros (day_index r.day) a).less);
   ut1 = omega (arith, (difference_fits r.ut1 q.ut1 f.ut1 g.ut1).sfits);
@@ -99,8 +113,8 @@ changed_fits r q a f g = record {
 walk_fits : (rs qs : List Record) → Each AcceptedRecord rs → Each AcceptedRecord qs → Each Fitting rs → Each Fitting qs → Each FittingEntry (walk rs qs)
 walk_fits = walk_ind (λ rs qs es. Each AcceptedRecord rs → Each AcceptedRecord qs → Each Fitting rs → Each Fitting qs → Each FittingEntry es)
     (λ _ _ _ _. tt)
-    (λ r rs qs es _ f a b c d. (alone_fits first_only r (omega arith) a.0 c.0, f a.1 b c.1 d))
-    (λ q rs qs es _ f a b c d. (alone_fits second_only q (omega arith) b.0 d.0, f a b.1 c d.1))
+    (λ r rs qs es _ f a b c d. (alone_fits FirstOnly r a.0 c.0, f a.1 b c.1 d))
+    (λ q rs qs es _ f a b c d. (alone_fits SecondOnly q b.0 d.0, f a b.1 c d.1))
     (λ r q rs qs es _ f a b c d. both_fit r q es (same_numbers r q) a.0 c.0 d.0 (f a.1 b.1 c.1 d.1))
   where
     both_fit : (r q : Record) (es : List Entry) (b : Bool) → AcceptedRecord r → Fitting r → Fitting q → Each FittingEntry es → Each FittingEntry (cond b [] (changed r q ∷ []) ++ es)

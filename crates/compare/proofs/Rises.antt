@@ -18,7 +18,8 @@ use Rattle.record.specs.Records.{record_with}
 use Rattle.files.specs.Files.{when, starts_after, rises}
 use Rattle.files.proofs.Records.{both, in_order}
 use Rattle.compare.specs.declared.Entry.{Entry}
-use Rattle.compare.specs.Walk.{alone, first_only, second_only, changed, same_numbers, walk}
+use Rattle.compare.specs.declared.Side.TheVariants.{FirstOnly, SecondOnly}
+use Rattle.compare.specs.Walk.{alone, changed, same_numbers, walk}
 use Rattle.compare.specs.Claims.{There, one_instant, entry_of_instant}
 use Rattle.compare.proofs.AtInstants.{Rising, rising_rest, rising_after, earlier_too, one_is, one_same}
 use Rattle.compare.proofs.Walks.{walk_ind}
@@ -41,10 +42,10 @@ risen = walk_ind (λ rs qs es. Rising rs → Rising qs → Risen rs qs es)
     (λ _ _. record { all = record { order = refl; accepted = tt }; after = λ t a b. refl })
     (λ r rs qs es a f g h.
     let k = f (rising_rest r rs g) h in
-    record { all = risen_more (bare (alone first_only r)) (map bare es) (k.after (when r) (rising_after r rs g) a) k.all g.accepted.0; after = λ t x y. x })
+    record { all = risen_more (bare (alone FirstOnly r)) (map bare es) (k.after (when r) (rising_after r rs g) a) k.all g.accepted.0; after = λ t x y. x })
     (λ q rs qs es a f g h.
     let k = f g (rising_rest q qs h) in
-    record { all = risen_more (bare (alone second_only q)) (map bare es) (k.after (when q) a (rising_after q qs h)) k.all h.accepted.0; after = λ t x y. y })
+    record { all = risen_more (bare (alone SecondOnly q)) (map bare es) (k.after (when q) a (rising_after q qs h)) k.all h.accepted.0; after = λ t x y. y })
     (λ r q rs qs es w f g h. both_risen r q rs qs es (same_numbers r q) w g h (f (rising_rest r rs g) (rising_rest q qs h)))
   where
     -- behind both records

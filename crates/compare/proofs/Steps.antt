@@ -20,7 +20,8 @@ use Rattle.files.specs.Inner.{at_end, sound_after, answers_from, sound, Standing
 use Rattle.files.proofs.Places.{Found, standing_front, standing_found, found_rest, standing_on, past_sound, past_unsound}
 use Rattle.compare.specs.declared.Entry.{Entry}
 use Rattle.compare.specs.declared.Place.{Place}
-use Rattle.compare.specs.Walk.{first_only, second_only, alone, same_numbers, changed, differing, walk}
+use Rattle.compare.specs.declared.Side.TheVariants.{FirstOnly, SecondOnly}
+use Rattle.compare.specs.Walk.{alone, same_numbers, changed, differing, walk}
 use Rattle.compare.specs.Inner.{record_at, records_from, record_in, place, start_of, behind, next_place, here, Going, count_of}
 use Rattle.compare.proofs.Walks.{walk_first, walk_second, walk_both, walk_none, few_differing}
 use Rattle.std.specs.Prelude.{Result, Some, None}
@@ -114,8 +115,8 @@ module _ {s t : List ℕ} {p : Place} {known : Bool} (g : Going s t p known) whe
 -- The case analysis behind the laws of a step: what holds of the next place and of the entries here in each of the three cases.
 module _ (s t : List ℕ) (p : Place) where
   pub in_step : (P : Place → List Entry → Type 0)
-      → (p.m < p.n → P (place (p.first + record_length) p.second (behind s p.first p.m) p.n) (alone first_only (record_at s p.first) ∷ []))
-      → (p.n < p.m → P (place p.first (p.second + record_length) p.m (behind t p.second p.n)) (alone second_only (record_at t p.second) ∷ []))
+      → (p.m < p.n → P (place (p.first + record_length) p.second (behind s p.first p.m) p.n) (alone FirstOnly (record_at s p.first) ∷ []))
+      → (p.n < p.m → P (place p.first (p.second + record_length) p.m (behind t p.second p.n)) (alone SecondOnly (record_at t p.second) ∷ []))
       → (p.m ≡ p.n → P (place (p.first + record_length) (p.second + record_length) (behind s p.first p.m) (behind t p.second p.n)) (differing (record_at s p.first) (record_at t p.second)))
       → P (next_place s t p) (here s t p)
   in_step P a b c = by (ltb p.m p.n) refl (ltb p.n p.m) refl
@@ -124,17 +125,17 @@ module _ (s t : List ℕ) (p : Place) where
           → P (cond x (place (p.first + record_length) p.second (behind s p.first p.m) p.n)
           (cond y (place p.first (p.second + record_length) p.m (behind t p.second p.n))
           (place (p.first + record_length) (p.second + record_length) (behind s p.first p.m) (behind t p.second p.n))))
-          (cond x (alone first_only (record_at s p.first) ∷ [])
-          (cond y (alone second_only (record_at t p.second) ∷ []) (differing (record_at s p.first) (record_at t p.second))))
+          (cond x (alone FirstOnly (record_at s p.first) ∷ [])
+          (cond y (alone SecondOnly (record_at t p.second) ∷ []) (differing (record_at s p.first) (record_at t p.second))))
       by true d y e = a (ltb-true _ _ d)
       by false d true e = b (ltb-true _ _ e)
       by false d false e = c (omega (arith, ltb-false p.m p.n d, ltb-false p.n p.m e))
 
   -- what is listed here, in each case
-  pub here_first : p.m < p.n → here s t p ≡ alone first_only (record_at s p.first) ∷ []
+  pub here_first : p.m < p.n → here s t p ≡ alone FirstOnly (record_at s p.first) ∷ []
   here_first h = rw (lt-ltb p.m p.n h) refl
 
-  pub here_second : p.n < p.m → here s t p ≡ alone second_only (record_at t p.second) ∷ []
+  pub here_second : p.n < p.m → here s t p ≡ alone SecondOnly (record_at t p.second) ∷ []
   here_second h = rw (le-ltb p.m p.n (omega arith), lt-ltb p.n p.m h) refl
 
   module _ (h : p.n ≤ p.m) (k : p.m ≤ p.n) where
@@ -172,7 +173,7 @@ module _ {s t : List ℕ} {p : Place} {known : Bool} (g : Going s t p known) whe
         lists = λ a b.
             ap (λ (rs : List Record). walk rs (records_from t p.second)) (found_records f)
             ∙ (walk_first f.it _ _ (ap (λ (k : ℕ). starts_after k (records_from t p.second)) f.is ∙ starts_later g.second b p.m h)
-            ∙ ap (λ (r : Record). alone first_only r ∷ walk (records_from s (p.first + record_length)) (records_from t p.second)) (sym (found_at f)));
+            ∙ ap (λ (r : Record). alone FirstOnly r ∷ walk (records_from s (p.first + record_length)) (records_from t p.second)) (sym (found_at f)));
       })
       (λ h.
       let l : p.n ≤ p.m = omega arith in
@@ -185,7 +186,7 @@ module _ {s t : List ℕ} {p : Place} {known : Bool} (g : Going s t p known) whe
         lists = λ a b.
             ap (λ (qs : List Record). walk (records_from s p.first) qs) (found_records f)
             ∙ (walk_second f.it _ _ (ap (λ (k : ℕ). starts_after k (records_from s p.first)) f.is ∙ starts_later g.first a p.n h)
-            ∙ ap (λ (r : Record). alone second_only r ∷ walk (records_from s p.first) (records_from t (p.second + record_length))) (sym (found_at f)));
+            ∙ ap (λ (r : Record). alone SecondOnly r ∷ walk (records_from s p.first) (records_from t (p.second + record_length))) (sym (found_at f)));
       })
       (λ h.
       let l : p.m ≤ p.n = omega arith in

@@ -3,7 +3,9 @@ use Rattle.std.specs.Prelude.{ℕ, zero, suc, Bool, cond, ◌&&◌, List, [], �
 use Rattle.bigendian.specs.Fields.{field_at, signed_at}
 use Rattle.record.specs.declared.Record.{Record}
 use Rattle.compare.specs.declared.Entry.{Entry}
-use Rattle.compare.specs.Walk.{entry, first_only, second_only, equal}
+use Rattle.compare.specs.declared.Side.{Side}
+use Rattle.compare.specs.declared.Side.TheVariants.{FirstOnly, SecondOnly, InBoth}
+use Rattle.compare.specs.Walk.{entry, equal}
 use Rattle.compare.specs.Compare.{entry_length, side_field, day_field, micros_field, ut1_field, lod_field, rate_field}
 
 -- ---- what stands at an instant
@@ -30,12 +32,14 @@ entry_of_instant d m (e ∷ es) = cond (one_instant d m e.day e.micros) (There e
 -- ---- files exchanged
 
 -- the side of an entry: first and second are exchanged, both is both
-abbrev pub other_side : ℕ → ℕ
-other_side n = cond (eqb n first_only) second_only (cond (eqb n second_only) first_only n)
+abbrev pub other_side : Side → Side
+other_side FirstOnly = SecondOnly
+other_side SecondOnly = FirstOnly
+other_side InBoth = InBoth
 
 -- an entry with its side exchanged and its differences negated
 abbrev pub exchanged : Entry → Entry
-exchanged e = entry (other_side e.side) e.day e.micros (neg_ℤ e.ut1) (neg_ℤ e.lod) (neg_ℤ e.rate)
+exchanged e = record { side = other_side e.side; day = e.day; micros = e.micros; ut1 = neg_ℤ e.ut1; lod = neg_ℤ e.lod; rate = neg_ℤ e.rate }
 
 -- ---- reading back
 

@@ -5,18 +5,18 @@ use Rattle.bigendian.specs.Fields.{field, in_field, signed_in}
 use Rattle.bigendian.specs.Buffers.{at_front}
 use Rattle.instants.specs.Refusals.{Case, case, refused_or, refusal_of}
 use Rattle.record.specs.declared.Record.{Record}
-use Rattle.files.specs.Files.{FileAnswer, IsFile, NoFile, file_of, file_cases}
+use Rattle.files.specs.Files.{file_of, file_cases}
 use Rattle.compare.specs.declared.Entry.{Entry}
-use Rattle.compare.specs.Walk.{walk}
+use Rattle.compare.specs.Walk.{side_number, walk}
 use Rattle.instants.specs.declared.refusal.Refusal.{Refusal}
 use Rattle.instants.specs.declared.refusal.Refusal.TheVariants.{BufferShort}
 
 -- ---- the list
 
 -- the records of a file, none beside a refusal
-abbrev pub records_of : FileAnswer → List Record
-records_of (IsFile rs) = rs
-records_of (NoFile n) = []
+abbrev pub records_of : Result (List Record) Refusal → List Record
+records_of (Ok rs) = rs
+records_of (Err n) = []
 
 -- the entries of two files
 unfoldable pub entries_of : List ℕ → List ℕ → List Entry
@@ -55,7 +55,7 @@ rate_field = field 29 8
 -- an entry, field by field
 unfoldable pub entry_bytes : Entry → List ℕ
 entry_bytes e =
-    in_field side_field e.side
+    in_field side_field (side_number e.side)
     ++ signed_in day_field e.day
     ++ in_field micros_field e.micros
     ++ signed_in ut1_field e.ut1

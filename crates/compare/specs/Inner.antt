@@ -8,7 +8,8 @@ use Rattle.files.specs.Files.{records_among, file_cases}
 use Rattle.files.specs.Inner.{at_end, next_moment, answers_from, sound, Standing}
 use Rattle.compare.specs.declared.Entry.{Entry}
 use Rattle.compare.specs.declared.Place.{Place}
-use Rattle.compare.specs.Walk.{first_only, second_only, alone, differing, walk}
+use Rattle.compare.specs.declared.Side.TheVariants.{FirstOnly, SecondOnly}
+use Rattle.compare.specs.Walk.{alone, differing, walk}
 use Rattle.compare.specs.Compare.{entry_length}
 use Rattle.instants.specs.declared.refusal.Refusal.{Refusal}
 
@@ -38,18 +39,23 @@ start_of s t = place 0 0 (next_moment 0 (answers_from s 0)) (next_moment 0 (answ
 abbrev pub behind : List ℕ → ℕ → ℕ → ℕ
 behind s i m = next_moment m (answers_from s (i + record_length))
 
+-- behind the record of the first file
+abbrev pub past_first : List ℕ → Place → Place
+past_first s p = place (p.first + record_length) p.second (behind s p.first p.m) p.n
+
+-- behind that of the second
+abbrev pub past_second : List ℕ → Place → Place
+past_second t p = place p.first (p.second + record_length) p.m (behind t p.second p.n)
+
 -- behind the earlier of two records, or behind both
 abbrev pub next_place : List ℕ → List ℕ → Place → Place
-next_place s t p =
-    cond (ltb p.m p.n) (place (p.first + record_length) p.second (behind s p.first p.m) p.n)
-    (cond (ltb p.n p.m) (place p.first (p.second + record_length) p.m (behind t p.second p.n))
-    (place (p.first + record_length) (p.second + record_length) (behind s p.first p.m) (behind t p.second p.n)))
+next_place s t p = cond (ltb p.m p.n) (past_first s p) (cond (ltb p.n p.m) (past_second t p) (past_second t (past_first s p)))
 
 -- what is listed there
 abbrev pub here : List ℕ → List ℕ → Place → List Entry
 here s t p =
-    cond (ltb p.m p.n) (alone first_only (record_at s p.first) ∷ [])
-    (cond (ltb p.n p.m) (alone second_only (record_at t p.second) ∷ []) (differing (record_at s p.first) (record_at t p.second)))
+    cond (ltb p.m p.n) (alone FirstOnly (record_at s p.first) ∷ [])
+    (cond (ltb p.n p.m) (alone SecondOnly (record_at t p.second) ∷ []) (differing (record_at s p.first) (record_at t p.second)))
 
 -- a walk at a place with a record in one file or in both, which are sound where that is known
 pub record Going (s t : List ℕ) (p : Place) (known : Bool) : Type 0 where

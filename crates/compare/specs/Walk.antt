@@ -3,34 +3,34 @@ use Rattle.std.specs.Prelude.{ℕ, Bool, false, cond, ◌&&◌, List, [], ◌∷
 use Rattle.record.specs.declared.Record.{Record}
 use Rattle.files.specs.Files.{when}
 use Rattle.compare.specs.declared.Entry.{Entry}
-
--- an entry: side, instant and three differences
-abbrev pub entry : ℕ → ℤ → ℕ → (ut1 lod rate : ℤ) → Entry
-entry side d m ut1 lod rate = record { side = side; day = d; micros = m; ut1 = ut1; lod = lod; rate = rate }
+use Rattle.compare.specs.declared.Side.{Side}
+use Rattle.compare.specs.declared.Side.TheVariants.{FirstOnly, SecondOnly, InBoth}
 
 -- ---- sides
 
--- an instant that is in the first file only
-abbrev pub first_only : ℕ
-first_only = 1
+-- the number of a side in an entry's first byte
+abbrev pub side_number : Side → ℕ
+side_number FirstOnly = 1
+side_number SecondOnly = 2
+side_number InBoth = 3
 
--- in the second only
-abbrev pub second_only : ℕ
-second_only = 2
-
--- in both
-abbrev pub in_both : ℕ
-in_both = 3
+-- the side of a number
+abbrev pub side_of : ℕ → Side
+side_of n = cond (eqb n 1) FirstOnly (cond (eqb n 2) SecondOnly InBoth)
 
 -- ---- entries
 
+-- an entry: the number of its side, its instant and three differences
+abbrev pub entry : ℕ → ℤ → ℕ → (ut1 lod rate : ℤ) → Entry
+entry n d m ut1 lod rate = record { side = side_of n; day = d; micros = m; ut1 = ut1; lod = lod; rate = rate }
+
 -- of a record in one file only: its instant, and zeros
-abbrev pub alone : ℕ → Record → Entry
-alone side r = entry side r.day r.micros (pos 0) (pos 0) (pos 0)
+abbrev pub alone : Side → Record → Entry
+alone side r = record { side = side; day = r.day; micros = r.micros; ut1 = pos 0; lod = pos 0; rate = pos 0 }
 
 -- of two records of one instant: second minus first
 abbrev pub changed : Record → Record → Entry
-changed r q = entry in_both r.day r.micros (q.ut1 -ℤ r.ut1) (q.lod -ℤ r.lod) (q.rate -ℤ r.rate)
+changed r q = record { side = InBoth; day = r.day; micros = r.micros; ut1 = q.ut1 -ℤ r.ut1; lod = q.lod -ℤ r.lod; rate = q.rate -ℤ r.rate }
 
 -- two numbers are equal
 abbrev pub equal : ℤ → ℤ → Bool
@@ -52,8 +52,8 @@ differing r q = cond (same_numbers r q) [] (changed r q ∷ [])
 -- the earlier of the two next records is taken, or both where they are of one instant
 unfoldable pub walk : (first second : List Record) → List Entry
 walk [] [] = []
-walk (r ∷ rs) [] = alone first_only r ∷ walk rs []
-walk [] (q ∷ qs) = alone second_only q ∷ walk [] qs
+walk (r ∷ rs) [] = alone FirstOnly r ∷ walk rs []
+walk [] (q ∷ qs) = alone SecondOnly q ∷ walk [] qs
 walk (r ∷ rs) (q ∷ qs) =
-    cond (ltb (when r) (when q)) (alone first_only r ∷ walk rs (q ∷ qs))
-    (cond (ltb (when q) (when r)) (alone second_only q ∷ walk (r ∷ rs) qs) (differing r q ++ walk rs qs))
+    cond (ltb (when r) (when q)) (alone FirstOnly r ∷ walk rs (q ∷ qs))
+    (cond (ltb (when q) (when r)) (alone SecondOnly q ∷ walk (r ∷ rs) qs) (differing r q ++ walk rs qs))

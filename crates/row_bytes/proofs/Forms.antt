@@ -1,19 +1,22 @@
 -- Bytes are of the right form exactly when none of the cases of the form applies; then the cases that are left are those of the rows. Assumes nothing.
 use Prim.Native.Nat.{ℕ, ◌≤◌, ◌<◌}
-use mathlib.Core.Path.{◌≡◌, ap}
-use mathlib.Core.Bool.{not}
+use mathlib.Core.Path.{◌≡◌, refl, ap, ◌∙◌}
+use mathlib.Core.Bool.{true, false, not}
+use Rattle.std.specs.Prelude.{Ok, Err, ⊤}
 use mathlib.Core.List.{List}
 use native.Mathlib.Omega.{arith}
 use borrow.Author.Tests.{ltb-false, eqb-true, le-ltb, eq-eqb, not-false}
 use lib.ListN.{length}
 use Rattle.bigendian.specs.Fields.{field_at}
-use Rattle.instants.specs.Refusals.{first_refusal}
-use Rattle.instants.proofs.FirstRefusal.{NoneApplies, none_both, none_answered, refused_first, first_none}
-use Rattle.rows.specs.Table.{row_at, fewest_rows, most_rows, table_cases, AcceptedTable}
+use Rattle.instants.specs.Refusals.{check, number}
+use Rattle.instants.proofs.FirstRefusal.{NoneApplies, none_both, none_answered, refused_checked, passed_none, first_none}
+use Rattle.instants.specs.declared.refusal.Refusal.{Refusal}
+use Rattle.instants.specs.declared.refusal.Refusal.TheVariants.{RowsDay, RowsSize}
+use Rattle.rows.specs.Table.{row_at, fewest_rows, most_rows, days_wrong, numbers_wrong, table_cases, AcceptedTable}
 use Rattle.rows.specs.Inner.{AcceptedRow}
 use Rattle.rows.proofs.Accepted.{accepted_row}
 use Rattle.row_bytes.specs.Form.{head_length, length_field, version_field, version, form_length, row_count, table_in, form_cases, bytes_cases, AcceptedBytes}
-use Rattle.row_bytes.specs.Inner.{form_refusal, bytes_refusal, Whole, Lent}
+use Rattle.row_bytes.specs.Inner.{Whole, Lent}
 use Rattle.row_bytes.proofs.Reading.{table_count}
 
 -- bytes of the right form
@@ -35,9 +38,8 @@ none_formed s h = record {
   version = eqb-true _ _ (not-false _ h.1.1.1.1.1.0);
 }
 
-pub formed : (s : List ℕ) → form_refusal s ≡ 0 → Formed s
-unfolding form_refusal
-formed s e = none_formed s (first_none (form_cases s) e)
+pub formed : (s : List ℕ) (u : ⊤) → check (form_cases s) ≡ Ok u → Formed s
+formed s u e = none_formed s (passed_none (form_cases s) u e)
 
 -- accepted bytes
 pub accepted_none : (s : List ℕ) → AcceptedBytes s → NoneApplies (bytes_cases s)
@@ -92,10 +94,27 @@ module _ (s : List ℕ) (l : Lent s) where
 
 -- the refusal of bytes: that of their form, or else that of the rows
 module _ (s : List ℕ) where
-  pub form_refused : (form_refusal s ≡ 0 → ⊥) → bytes_refusal s ≡ form_refusal s
-  unfolding form_refusal bytes_refusal
-  form_refused h = refused_first (λ n. n) (form_cases s) (first_refusal (table_cases (table_in s))) h
+  pub form_refused : (r : Refusal) → check (form_cases s) ≡ Err r → check (bytes_cases s) ≡ Err r
+  form_refused r e = refused_checked Err (form_cases s) (check (table_cases (table_in s))) r e
 
-  pub form_passed : form_refusal s ≡ 0 → bytes_refusal s ≡ first_refusal (table_cases (table_in s))
-  unfolding form_refusal bytes_refusal
-  form_passed e = none_answered (λ n. n) (form_cases s) (first_refusal (table_cases (table_in s))) (first_none (form_cases s) e)
+  module _ (u : ⊤) (e : check (form_cases s) ≡ Ok u) where
+    form_passed : check (bytes_cases s) ≡ check (table_cases (table_in s))
+    form_passed = none_answered Err (form_cases s) (check (table_cases (table_in s))) (passed_none (form_cases s) u e)
+
+    pub days_refused : days_wrong (table_in s) ≡ true → check (bytes_cases s) ≡ Err RowsDay
+    days_refused d = form_passed ∙ rw d refl
+
+    pub numbers_refused : days_wrong (table_in s) ≡ false → numbers_wrong (table_in s) ≡ true → check (bytes_cases s) ≡ Err RowsSize
+    numbers_refused d n = form_passed ∙ rw (d, n) refl
+
+    module _ (d : days_wrong (table_in s) ≡ false) (n : numbers_wrong (table_in s) ≡ false) where
+      pub rows_accepted : AcceptedTable (table_in s)
+      rows_accepted =
+          let f = formed s u e in
+          record { fewest = rw (table_count s) f.fewest; most = rw (table_count s) f.most; days = d; numbers = n }
+
+      pub rows_lent : Lent s
+      rows_lent = record { whole = (formed s u e).whole; accepted = rows_accepted }
+
+      pub bytes_passed : AcceptedBytes s
+      bytes_passed = bytes_accepted s (formed s u e) rows_accepted

@@ -3,9 +3,9 @@
 
 ghost use Rattle.std.specs.Prelude.{◌≡◌, ◌||◌, ◌<◌, ◌≤◌, length, IfOk, IfErr, Err};
 ghost use Rattle.instants.specs.Refusals.{check};
-ghost use Rattle.rows.specs.Table.{row_at, day_out, not_after, days_wrong, numbers_wrong, AcceptedTable};
+ghost use Rattle.rows.specs.Table.{row_at, day_out, not_after, days_wrong, numbers_wrong};
 ghost use Rattle.row_bytes.specs.Form.{head_length, row_length, row_in, row_count, table_in, form_cases, bytes_cases, AcceptedBytes};
-ghost use Rattle.row_bytes.specs.Inner.{Whole};
+ghost use Rattle.row_bytes.specs.Inner.{Whole, Lent};
 
 use bigendian::Field;
 use instants::Refusal;
@@ -55,11 +55,12 @@ fn form(s: &[u8]) -> Result<(), Refusal>
     ensures { result ≡ check (form_cases s.now) }
 {
     let n = s.len();
-    if n < HEAD || LENGTH_FIELD.read(s) != n as u64 {
-        return Err(Refusal::RowsLength);
-    }
-    let count = row_count(n);
-    if count < FEWEST || MOST < count || n != HEAD + ROW * count {
+    if n < HEAD
+        || LENGTH_FIELD.read(s) != n as u64
+        || row_count(n) < FEWEST
+        || MOST < row_count(n)
+        || n != HEAD + ROW * row_count(n)
+    {
         return Err(Refusal::RowsLength);
     }
     if VERSION_FIELD.read(s) != VERSION {
@@ -119,8 +120,7 @@ impl<'a> Rows<'a> {
 #[derive(Clone, Copy)]
 pub struct Table<'a> {
     pub bytes: &'a [u8],
-    pub ghost whole: { Whole bytes.now },
-    pub ghost accepted: { AcceptedTable (table_in bytes.now) },
+    pub ghost lent: { Lent bytes.now },
 }
 
 impl<'a> Table<'a> {

@@ -29,7 +29,7 @@ none_at f (suc n) e i h =
 pub none_more : (f : ℕ → Bool) (n : ℕ) → some_below n f ≡ false → f n ≡ false → some_below (suc n) f ≡ false
 none_more f n e g = rw g e
 
-none_found : (f : ℕ → Bool) (n : ℕ) → ((i : ℕ) → i < n → f i ≡ false) → some_below n f ≡ false
+pub none_found : (f : ℕ → Bool) (n : ℕ) → ((i : ℕ) → i < n → f i ≡ false) → some_below n f ≡ false
 none_found f zero h = refl
 none_found f (suc n) h = none_more f n (none_found f n (λ i k. h i (N.le_trans k (N.le-suc n)))) (h n (N.le_refl (suc n)))
 

@@ -11,9 +11,10 @@ use lib.Seq.{take_all, drop-length}
 use borrow.Author.Tests.{ltb-false}
 use Rattle.bigendian.specs.Buffers.{at_front}
 use Rattle.bigendian.proofs.Buffers.{Keeps, kept, front_keeps, front_length, front_take, front_behind, front_more}
+use Rattle.instants.specs.declared.refusal.Refusal.{Refusal}
 use Rattle.instants.specs.Instants.{instant_cases, IsAccepted, later_day, later_micros}
 use Rattle.instants.proofs.Impossible.{impossible}
-use Rattle.instants.proofs.FirstRefusal.{none_both, in_each, refused_alike, none_answered, refused_first, first_none}
+use Rattle.instants.proofs.FirstRefusal.{none_both, in_each, refused_alike, none_answered, refused_same, first_none}
 use Rattle.record.specs.Format.{record_length}
 use Rattle.record.specs.Records.{written}
 use Rattle.record.proofs.Written.{written_is, record_length_lem}
@@ -29,7 +30,7 @@ unfolding written_at record_at
 written_accepted d m old a h = written_is d m _ _ _ old a h
 
 -- an instant without corrections has no record
-pub written_refused : (d : ℤ) (m n : ℕ) (old : List ℕ) → zonal_of d m ≡ Err n → old ≡ written_at d m old
+pub written_refused : (d : ℤ) (m : ℕ) (n : Refusal) (old : List ℕ) → zonal_of d m ≡ Err n → old ≡ written_at d m old
 unfolding written_at written zonal_of
 written_refused d m n old e = sym (refused_alike Err (λ _. old) (instant_cases d m) _ _ n (λ k p. cc) (λ p. impossible (cc)) e)
 
@@ -58,12 +59,12 @@ run_length d m step (suc k) =
 -- A run that is refused leaves every byte of the buffer as it was.
 pub refused_unchanged : (d : ℤ) (m count step : ℕ) (old : List ℕ) → (run_refusal d m count step (length old) ≡ 0 → ⊥) → run_written d m count step old ≡ old
 unfolding run_refusal run_written
-refused_unchanged d m count step old h = refused_first (λ _. old) (run_cases d m count step (length old)) _ h
+refused_unchanged d m count step old h = refused_same old (run_cases d m count step (length old)) _ h
 
 -- a run that is not refused has its records at the front
 pub run_written_lem : (d : ℤ) (m count step : ℕ) (old : List ℕ) → run_refusal d m count step (length old) ≡ 0 → run_written d m count step old ≡ at_front (run_bytes d m step count) old
 unfolding run_refusal run_written
-run_written_lem d m count step old e = let cs = run_cases d m count step (length old) in none_answered (λ _. old) cs _ (first_none cs tt e)
+run_written_lem d m count step old e = let cs = run_cases d m count step (length old) in none_answered (λ _. old) cs _ (first_none cs e)
 
 -- PROMISE. A run leaves the buffer as long as it is, and every byte behind its records as it was.
 pub run_keeps : (d : ℤ) (m count step : ℕ) (old : List ℕ) → Keeps (record_length * count) old (run_written d m count step old)
@@ -74,19 +75,22 @@ run_keeps d m count step old =
     let e = (none_both (instant_cases d m) (end_cases d m count step (length old)) h.1.1).1 in
     front_keeps (run_bytes d m step count) old _ (run_length d m step count) (ltb-false (length old) (record_length * count) e.1.0))
 
--- What stands in the buffer when k of count records have been written: these at its front, and the next one's place is `at`.
-pub record Filled (d : ℤ) (m count step : ℕ) (old s : List ℕ) (k at : ℕ) : Type 0 where
+-- What stands in the buffer when k of count records have been written: these at its front.
+pub record Filled (d : ℤ) (m count step : ℕ) (old s : List ℕ) (k : ℕ) : Type 0 where
   pub most : k ≤ count
   pub room : record_length * count ≤ length old
-  pub place : at ≡ record_length * k
   pub bytes : s ≡ at_front (run_bytes d m step k) old
 
-module _ {d : ℤ} {m count step : ℕ} {old s : List ℕ} {k at : ℕ} (f : Filled d m count step old s k at) where
+module _ {d : ℤ} {m count step : ℕ} {old s : List ℕ} {k : ℕ} (f : Filled d m count step old s k) where
+  -- the place of the next record
+  abbrev at : ℕ
+  at = record_length * k
+
   long : length (run_bytes d m step k) ≡ at
-  long = run_length d m step k ∙ sym f.place
+  long = run_length d m step k
 
   pub filled_length : length s ≡ length old
-  filled_length = ap length f.bytes ∙ front_length (run_bytes d m step k) old (omega (arith, long, f.room, f.place, f.most))
+  filled_length = ap length f.bytes ∙ front_length (run_bytes d m step k) old (omega (arith, long, f.room, f.most))
 
   front : take at s ≡ run_bytes d m step k
   front = rw f.bytes (front_take (run_bytes d m step k) old at long)
@@ -104,16 +108,15 @@ module _ {d : ℤ} {m count step : ℕ} {old s : List ℕ} {k at : ℕ} (f : Fil
   -- one more record is written over the part
   pub filled_more : k < count → IsAccepted (later_day d m (k * step)) (later_micros m (k * step))
       → (ys : List ℕ) → ys ≡ written_at (later_day d m (k * step)) (later_micros m (k * step)) (take (length s - at) (drop at s))
-      → Filled d m count step old (take at s ++ (ys ++ drop (length s - at) (drop at s))) (k + 1) (at + record_length)
+      → Filled d m count step old (take at s ++ (ys ++ drop (length s - at) (drop at s))) (k + 1)
   unfolding run_bytes
   filled_more h a ys e =
       let r : List ℕ = record_at (later_day d m (k * step)) (later_micros m (k * step)) in
-      let n : record_length ≤ length (drop at old) = omega (arith, length-drop at old, f.room, f.place) in
+      let n : record_length ≤ length (drop at old) = omega (arith, length-drop at old, f.room) in
       let w : ys ≡ at_front r (drop at old) = e ∙ (ap (written_at (later_day d m (k * step)) (later_micros m (k * step))) lent ∙ written_accepted _ _ (drop at old) a n) in
       let o : run_bytes d m step (k + 1) ≡ run_bytes d m step k ++ r = ap (run_bytes d m step) (add-one k) in
       record {
         most = omega arith;
         room = f.room;
-        place = omega (arith, f.place);
         bytes = rw (front, unlent, append-nil, w, o) (sym (front_more (run_bytes d m step k) r old at long));
       }

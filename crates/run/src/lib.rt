@@ -3,93 +3,71 @@
 
 ghost use Rattle.std.specs.Prelude.{◌≡◌, length};
 ghost use Rattle.bigendian.specs.Buffers.{at_front};
-ghost use Rattle.instants.specs.Inner.{acceptance_refusal_of, LaterBounds};
+ghost use Rattle.instants.specs.Inner.{LaterBounds};
 ghost use Rattle.instants.specs.Instants.{later_day, later_micros};
-ghost use Rattle.run.specs.Run.{run_refusal, run_bytes, run_written};
+ghost use Rattle.instants.specs.Refusals.{check};
+ghost use Rattle.run.specs.Run.{run_cases, run_refusal, run_bytes, run_written};
 ghost use Rattle.run.specs.Inner.{written_at};
 
-use instants::{Acceptance, DAY_MICROS};
-use record::LENGTH;
-use zonal::ZonalAnswer;
+use instants::{DAY_MICROS, Instant, Refusal};
+use record::{LENGTH, Record};
 
 // The most records of a run.
 const MOST_RECORDS: u64 = 96;
 
-// The refusal that an acceptance is, or 0.
-fn acceptance_refusal(a: Acceptance) -> u32
-    ensures { result ≡ acceptance_refusal_of a }
-{
-    match a {
-        Acceptance::NotAccepted(n) => n,
-        Acceptance::Accepted(_) => 0,
-    }
-}
-
-// The refusal of a run into a buffer of so many bytes, or 0.
-#[tactic(auto, unfolding(crate::specs::Run::run_refusal))]
-fn refusal(day: i64, micros: u64, count: u64, step: u64, size: usize) -> u32
-    ensures { result ≡ run_refusal day micros count step size }
+// Accepts a run into a buffer of so many bytes, or refuses it.
+fn accept(start: Instant, count: u64, step: u64, size: usize) -> Result<(), Refusal>
+    ensures { result ≡ check (run_cases start.day start.micros count step size) }
 {
     if (count < 1) | (MOST_RECORDS < count) {
-        return 17;
+        return Err(Refusal::RunCount);
     }
     if (step < 1) | (DAY_MICROS < step) {
-        return 18;
+        return Err(Refusal::RunStep);
     }
-    let start = acceptance_refusal(instants::accept(day, micros));
-    if start != 0 {
-        return start;
-    }
-    let last = instants::later(day, micros, (count - 1) * step);
-    let end = acceptance_refusal(instants::accept(last.day, last.micros));
-    if end != 0 {
-        return end;
-    }
+    start.accept()?;
+    start.later((count - 1) * step).accept()?;
     if size < LENGTH * (count as usize) {
-        return 12;
+        return Err(Refusal::BufferShort);
     }
-    0
+    Ok(())
 }
 
-// Writes the record of the instant t microseconds after an instant, with its corrections, at the front of the buffer.
-fn write_later(day: i64, micros: u64, t: u64, buffer: &mut [u8])
-    requires { LaterBounds day micros t }
-    ensures { buffer.new ≡ written_at (later_day day micros t) (later_micros micros t) buffer.old }
+// Writes the record of the instant t microseconds after a start, with its corrections, at the front of the buffer.
+fn write_later(start: Instant, t: u64, buffer: &mut [u8])
+    requires { LaterBounds start.day start.micros t }
+    ensures { buffer.new ≡ written_at (later_day start.day start.micros t) (later_micros start.micros t) buffer.old }
 {
-    let i = instants::later(day, micros, t);
-    let d = i.day;
-    let m = i.micros;
-    match zonal::zonal_of(d, m) {
-        ZonalAnswer::NoZonal(_) => {}
-        ZonalAnswer::Zonal(c) => {
-            record::write(d, m, c.ut1, c.lod, c.rate, buffer);
-        }
+    let i = start.later(t);
+    if let Ok(c) = zonal::zonal_of(i) {
+        let record = Record {
+            day: i.day,
+            micros: i.micros,
+            ut1: c.ut1,
+            lod: c.lod,
+            rate: c.rate,
+        };
+        let _ = record.write(buffer);
     }
 }
 
 // Writes the records of a run that is not refused.
-fn fill(day: i64, micros: u64, count: u64, step: u64, buffer: &mut [u8])
-    requires { run_refusal day micros count step (length buffer.old) ≡ 0 }
-    ensures { buffer.new ≡ at_front (run_bytes day micros step count) buffer.old }
+fn fill(start: Instant, count: u64, step: u64, buffer: &mut [u8])
+    requires { run_refusal start.day start.micros count step (length buffer.old) ≡ 0 }
+    ensures { buffer.new ≡ at_front (run_bytes start.day start.micros step count) buffer.old }
 {
-    let mut k: u64 = 0;
-    let mut at: usize = 0;
-    while k < count {
-        write_later(day, micros, k * step, &mut buffer[at..]);
-        k += 1;
-        at += LENGTH;
+    // By places: of what is written through `chunks_exact_mut` a proof knows the length alone.
+    for k in 0..count {
+        write_later(start, k * step, &mut buffer[LENGTH * (k as usize)..]);
     }
 }
 
-// Writes a run at the front of the buffer and returns 0, or a refusal number with the buffer as it was.
-pub fn write(day: i64, micros: u64, count: u64, step: u64, buffer: &mut [u8]) -> u32
-    ensures refusal { result ≡ run_refusal day micros count step (length buffer.old) }
-    ensures buffer { buffer.new ≡ run_written day micros count step buffer.old }
+// Writes a run at the front of the buffer, or leaves the buffer as it was beside a refusal.
+pub fn write(start: Instant, count: u64, step: u64, buffer: &mut [u8]) -> Result<(), Refusal>
+    ensures refusal { result ≡ check (run_cases start.day start.micros count step (length buffer.old)) }
+    ensures buffer { buffer.new ≡ run_written start.day start.micros count step buffer.old }
 {
-    let n = refusal(day, micros, count, step, buffer.len());
-    if n != 0 {
-        return n;
-    }
-    fill(day, micros, count, step, buffer);
-    n
+    accept(start, count, step, buffer.len())?;
+    fill(start, count, step, buffer);
+    Ok(())
 }

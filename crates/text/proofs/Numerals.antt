@@ -8,6 +8,8 @@ use native.Mathlib.Nat.{pow-suc}
 use lib.Dec.{ltb}
 use lib.ListN.{length, length-append}
 use borrow.Author.Tests.{lt-ltb, le-ltb, ltb-true, ltb-false}
+use Rattle.instants.specs.declared.refusal.Refusal.{Refusal}
+use Rattle.instants.specs.Refusals.{number}
 use Rattle.text.specs.Text.{digit, numeral_in, numeral, refusal_text}
 
 -- a number has one digit, or more than one
@@ -86,10 +88,10 @@ pub numeral_most : (n : ℕ) → length (numeral n) ≤ 20
 numeral_most n = most 20 n
 
 -- how many bytes a refusal's text has
-pub refusal_length : (n : ℕ) → length (refusal_text n) ≡ length (numeral n) + 9
+pub refusal_length : (r : Refusal) → length (refusal_text r) ≡ length (numeral (number r)) + 9
 unfolding refusal_text
-refusal_length n = simp length-append (omega arith)
+refusal_length r = simp length-append (omega arith)
 
 -- twenty-nine at most
-pub refusal_most : (n : ℕ) → length (refusal_text n) ≤ 29
-refusal_most n = omega (arith, refusal_length n, numeral_most n)
+pub refusal_most : (r : Refusal) → length (refusal_text r) ≤ 29
+refusal_most r = omega (arith, refusal_length r, numeral_most (number r))

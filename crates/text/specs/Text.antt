@@ -1,6 +1,8 @@
 -- The programs' words: a text as bytes, decimal numerals, and what is written of a refusal.
 use Rattle.std.specs.Prelude.{ℕ, zero, suc, ◌+◌, ◌/◌, ◌%◌, cond, List, [], ◌∷◌, ◌++◌, ltb}
 use Prim.Native.Char.{code}
+use Rattle.instants.specs.declared.refusal.Refusal.{Refusal}
+use Rattle.instants.specs.Refusals.{number}
 use Prim.Native.String.{String, [] as noText, ◌∷◌ as ◌before◌}
 
 -- the bytes of a text, in ASCII
@@ -21,6 +23,6 @@ numeral_in (suc k) n = cond (ltb n 10) (digit n ∷ []) (numeral_in k (n / 10) +
 abbrev pub numeral : ℕ → List ℕ
 numeral n = numeral_in 20 n
 
--- a refusal: the word, the number and a newline
-unfoldable pub refusal_text : ℕ → List ℕ
-refusal_text n = ascii "refused " ++ numeral n ++ ascii "\n"
+-- a refusal: the word, its number and a newline
+unfoldable pub refusal_text : Refusal → List ℕ
+refusal_text r = ascii "refused " ++ numeral (number r) ++ ascii "\n"

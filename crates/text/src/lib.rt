@@ -5,6 +5,8 @@ ghost use Rattle.std.specs.Prelude.{◌≡◌, ◌++◌, ◌≤◌, length};
 ghost use Rattle.bigendian.specs.Buffers.{at_front};
 ghost use Rattle.text.specs.Text.{numeral, refusal_text};
 
+use instants::Refusal;
+
 // The number of decimal digits of n.
 fn digits(n: u64) -> usize
     ensures { result ≡ length (numeral n) }
@@ -26,10 +28,9 @@ pub fn put_numeral(n: u64, buffer: &mut [u8]) -> usize
 {
     let size = digits(n);
     let mut rest = n;
-    let mut k: usize = 0;
-    while k < size {
-        k += 1;
-        buffer[size - k] = b'0' + (rest % 10) as u8;
+    // By places: of what is written through `iter_mut().rev()` a proof knows the length alone.
+    for k in (0..size).rev() {
+        buffer[k] = b'0' + (rest % 10) as u8;
         rest = rest / 10;
     }
     size
@@ -46,12 +47,12 @@ pub fn put_counted(word: &[u8], n: u64, buffer: &mut [u8]) -> usize
 }
 
 // Puts a refusal's text at the front of the buffer and returns its length.
-pub fn refuse(number: u32, buffer: &mut [u8]) -> usize
-    requires { length (refusal_text number) ≤ length buffer.old }
-    ensures size { result ≡ length (refusal_text number) }
-    ensures buffer { buffer.new ≡ at_front (refusal_text number) buffer.old }
+pub fn refuse(refusal: Refusal, buffer: &mut [u8]) -> usize
+    requires { length (refusal_text refusal) ≤ length buffer.old }
+    ensures size { result ≡ length (refusal_text refusal) }
+    ensures buffer { buffer.new ≡ at_front (refusal_text refusal) buffer.old }
 {
-    let end = put_counted(b"refused ", number as u64, buffer);
+    let end = put_counted(b"refused ", u64::from(u32::from(refusal)), buffer);
     buffer[end] = b'\n';
     end + 1
 }

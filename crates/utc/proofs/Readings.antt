@@ -41,16 +41,13 @@ last_second_lem n hour minute = by (eqb hour 23) (eqb minute 59) (has_second60 n
     by true true false p q r = usual
     by true true true p q r = longer (eqb-true hour 23 p) (eqb-true minute 59 q) r
 
--- in the last minute of a day, and in another
+-- in the last minute of a day
 pub last_minute : (n hour minute : ℕ) → eqb hour 23 && eqb minute 59 ≡ true → last_second n hour minute ≡ 59 + extra (has_second60 n)
 last_minute n hour minute e = rw e (by (has_second60 n))
   where
     by : (b : Bool) → cond b 60 59 ≡ 59 + extra b
     by true = refl
     by false = refl
-
-pub other_minute : (n hour minute : ℕ) → eqb hour 23 && eqb minute 59 ≡ false → last_second n hour minute ≡ 59
-other_minute n hour minute e = rw e refl
 
 -- ---- what an accepted reading has
 

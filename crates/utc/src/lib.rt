@@ -73,16 +73,16 @@ fn steps_begun(t: &[u64], n: u64) -> usize
     t.iter().rposition(|from| *from <= n).map_or(0, |k| k + 1)
 }
 
-// TAI - UTC on the day of index n, in seconds. The table is named once, and lent.
+// TAI - UTC on the day of index n, in seconds.
 fn tai_minus_utc(n: u64) -> u64
     ensures seconds { result ≡ tai_minus_utc n }
     ensures most { result ≤ 37 }
 {
-    let t = STEPS;
-    FIRST_SECONDS + (steps_begun(&t, n) as u64)
+    FIRST_SECONDS + (steps_begun(&STEPS, n) as u64)
 }
 
 // The last second of a minute of the day of index n: 60 in its last minute, where the next day has a second more of TAI - UTC.
+#[tactic(auto, using(crate::proofs::Steps::next_tai, crate::proofs::Steps::extra_most, crate::proofs::Readings::last_minute))]
 fn last_second(n: u64, hour: u64, minute: u64) -> u64
     requires { n < days_covered }
     ensures second { result ≡ last_second n hour minute }
@@ -103,6 +103,7 @@ fn tt_minus_utc(n: u64) -> u64
 }
 
 // The moment at which the UTC day of index n begins.
+#[tactic(auto, unfolding(crate::specs::Conversions::day_begins))]
 fn day_begins(n: u64) -> u64
     requires { n < days_covered }
     ensures { result ≡ day_begins n }
@@ -114,15 +115,12 @@ fn day_begins(n: u64) -> u64
 fn minute_of_day(u: u64) -> u64
     ensures { result ≡ minute_of_day u }
 {
-    let minute = u / MINUTE_MICROS;
-    if minute < DAY_MINUTES {
-        return minute;
-    }
-    DAY_MINUTES - 1
+    (u / MINUTE_MICROS).min(DAY_MINUTES - 1)
 }
 
 impl UtcTime {
     // This time, or refusal 19 or 20.
+    #[tactic(auto, unfolding(crate::specs::Inner::covered_time), using(crate::proofs::Days::first_index_lem, crate::proofs::Days::expiry_index))]
     fn covered(self) -> Result<UtcTime, Refusal>
         ensures { result ≡ covered_time self.index self.micros }
     {
@@ -222,6 +220,7 @@ impl PhaseParts {
 }
 
 // The reading at the moment x of the TT day of index i, or refusal 19 or 20.
+#[tactic(auto, unfolding(crate::specs::Inner::reading_answer), using(crate::proofs::Days::first_begins, crate::proofs::Days::expiry_begins, crate::proofs::Days::begins_to))]
 fn reading_on(i: u64, x: u64) -> Result<Reading, Refusal>
     requires { OnDay i x }
     ensures { result ≡ reading_answer i x }

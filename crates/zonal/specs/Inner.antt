@@ -1,13 +1,18 @@
 -- What only the contracts of the code's own functions cite.
-use Rattle.std.specs.Prelude.{◌≡◌, List, ℕ, ◌+◌, ◌-◌, ◌^◌, ◌≤◌, ◌<◌, ℤ, ◌+ℤ◌, ◌*ℤ◌, nat_abs}
+use Rattle.std.specs.Prelude.{List, [], ℕ, ◌+◌, ◌-◌, ◌^◌, ◌≤◌, ◌<◌, ℤ, ◌+ℤ◌, ◌*ℤ◌, nat_abs, get_or}
+use Rattle.algebra.specs.Integers.{+◌}
 use Rattle.zonal.specs.Coefficients.{coefficients}
 use Rattle.zonal.specs.declared.Sums.{Sums}
-use Rattle.zonal.specs.Exact.{row_count, coefficient, ut1_sum, lod_sum, rate_sum}
+use Rattle.zonal.specs.Exact.{ut1_sum, lod_sum, rate_sum}
 use Rattle.zonal.specs.Ours.{row_sine, row_cosine}
 
--- the row r of a sum: its coefficient in the column j times p, and that in the next times q
+-- of a row of the table: its coefficient in the column j times p, and that in the next times q
+abbrev pub row_term : List ℤ → ℕ → ℤ → ℤ → ℤ
+row_term cs j p q = get_or cs j (+ 0) *ℤ p +ℤ get_or cs (j + 1) (+ 0) *ℤ q
+
+-- that of the row r
 abbrev pub term : ℕ → ℕ → ℤ → ℤ → ℤ
-term r j p q = coefficient r j *ℤ p +ℤ coefficient r (j + 1) *ℤ q
+term r = row_term (get_or coefficients r [])
 
 -- the most that a sum is at any row, in magnitude
 abbrev pub sum_most : ℕ
@@ -17,10 +22,9 @@ sum_most = 2 ^ 63 - 2 ^ 58
 abbrev pub product_most : ℕ
 product_most = 2 ^ 62 - 2 ^ 31
 
--- what adding a row asks, so that nothing passes 64 bits: the table, a place in it, the sum before, and the two that its coefficients go with
-pub record RowBounds (t : List (List ℤ)) (r j : ℕ) (v p q : ℤ) : Type 0 where
-  pub table : t ≡ coefficients
-  pub row : r < row_count
+-- what adding a row asks, so that nothing passes 64 bits: its coefficients, a column, the sum before, and the two that its coefficients go with
+pub record RowBounds (cs : List ℤ) (j : ℕ) (v p q : ℤ) : Type 0 where
+  pub coefficients : (i : ℕ) → nat_abs (get_or cs i (+ 0)) ≤ 2 ^ 24
   pub column : j < 5
   pub sum : nat_abs v ≤ sum_most
   pub first : nat_abs p < 2 ^ 32

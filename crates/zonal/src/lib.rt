@@ -8,30 +8,22 @@ mod table;
 ghost use Rattle.std.specs.Prelude.{◌≡◌, ◌≤◌, ◌<◌, nat_abs, ◌+ℤ◌, ◌*ℤ◌};
 ghost use Rattle.instants.specs.Limits.{day_micros, days_covered};
 ghost use Rattle.instants.specs.Moments.{latest};
-ghost use Rattle.arguments.specs.Table.{multipliers};
-ghost use Rattle.zonal.specs.Coefficients.{coefficients};
 ghost use Rattle.zonal.specs.Ours as ours;
-ghost use Rattle.zonal.specs.Inner.{term, product_most, RowBounds, sums_at};
+ghost use Rattle.zonal.specs.Inner.{row_term, product_most, RowBounds, sums_at};
 
-use instants::Acceptance;
+use instants::{Instant, Refusal};
+use table::{COEFFICIENTS, MULTIPLIERS};
 
 // UT1 in nanoseconds, length of day in picoseconds, rate in 10^-20 rad/s.
-#[derive(Drop)]
+#[derive(Clone, Copy)]
 pub struct Corrections {
     pub ut1: i32,
     pub lod: i32,
     pub rate: i32,
 }
 
-// The three numbers, or the number of a refusal.
-#[derive(Drop)]
-pub enum ZonalAnswer {
-    Zonal(Corrections),
-    NoZonal(u32),
-}
-
 // The three sums over the rows, in units of 2^-31.
-#[derive(Drop)]
+#[derive(Clone, Copy)]
 struct Sums {
     ut1: i64,
     lod: i64,
@@ -39,55 +31,33 @@ struct Sums {
 }
 
 // A sum with one more row: its coefficient in a column times p, and that in the next column times q.
-fn add_row(t: &[[i64; 6]; 62], row: usize, column: usize, total: i64, p: i64, q: i64) -> i64
-    requires { RowBounds t.now row column total p q }
-    ensures { result ≡ total +ℤ term row column p q }
+fn add_row(total: i64, row: &[i64; 6], column: usize, p: i64, q: i64) -> i64
+    requires { RowBounds row.now column total p q }
+    ensures { result ≡ total +ℤ row_term row.now column p q }
 {
-    total + (t[row][column] * p + t[row][column + 1] * q)
-}
-
-// The sums over the rows of the table, whose two parts are lent.
-fn sum_rows(k: &[[i8; 5]; 62], t: &[[i64; 6]; 62], x: u64) -> Sums
-    requires multipliers { k.now ≡ multipliers }
-    requires coefficients { t.now ≡ coefficients }
-    requires moment { x ≤ latest }
-    ensures { result ≡ sums_at x }
-{
-    let a = arguments::arguments(x);
-    let mut ut1: i64 = 0;
-    let mut lod: i64 = 0;
-    let mut rate: i64 = 0;
-    let mut row: usize = 0;
-    while row < 62 {
-        let b = arguments::angle(k, row, a);
-        let s = sine::sine(b);
-        let c = sine::cosine(b);
-        ut1 = add_row(t, row, 0, ut1, s, c);
-        lod = add_row(t, row, 2, lod, c, s);
-        rate = add_row(t, row, 4, rate, c, s);
-        row = row + 1;
-    }
-    Sums { ut1, lod, rate }
-}
-
-// The sums at a moment, with the multipliers lent. Each part of the table is named in one of these two functions and nowhere else, so that it is
-// made once for an instant.
-fn sums_with(k: &[[i8; 5]; 62], x: u64) -> Sums
-    requires multipliers { k.now ≡ multipliers }
-    requires moment { x ≤ latest }
-    ensures { result ≡ sums_at x }
-{
-    let t = table::COEFFICIENTS;
-    sum_rows(k, &t, x)
+    total + (row[column] * p + row[column + 1] * q)
 }
 
 // The sums at a moment.
-fn table_sums(x: u64) -> Sums
+fn sums_at(x: u64) -> Sums
     requires { x ≤ latest }
     ensures { result ≡ sums_at x }
 {
-    let k = table::MULTIPLIERS;
-    sums_with(&k, x)
+    let a = arguments::arguments(x);
+    let mut total = Sums {
+        ut1: 0,
+        lod: 0,
+        rate: 0,
+    };
+    for (multipliers, row) in MULTIPLIERS.iter().zip(&COEFFICIENTS) {
+        let b = arguments::angle(multipliers, &a);
+        let s = sine::sine(b);
+        let c = sine::cosine(b);
+        total.ut1 = add_row(total.ut1, row, 0, s, c);
+        total.lod = add_row(total.lod, row, 2, c, s);
+        total.rate = add_row(total.rate, row, 4, c, s);
+    }
+    total
 }
 
 // A half, in units of 2^-31.
@@ -107,7 +77,7 @@ fn corrections_at(index: u64, micros: u64) -> Corrections
     requires micros { micros < day_micros }
     ensures { result ≡ ours.corrections_at index micros }
 {
-    let v = table_sums(instants::moment(index, micros));
+    let v = sums_at(instants::moment(index, micros));
     Corrections {
         ut1: rounded(10, v.ut1),
         lod: rounded(1000, v.lod),
@@ -116,11 +86,9 @@ fn corrections_at(index: u64, micros: u64) -> Corrections
 }
 
 // The corrections of an instant, or its refusal.
-pub fn zonal_of(day: i64, micros: u64) -> ZonalAnswer
-    ensures { result ≡ ours.zonal_of day micros }
+pub fn zonal_of(t: Instant) -> Result<Corrections, Refusal>
+    ensures { result ≡ ours.zonal_of t.day t.micros }
 {
-    match instants::accept(day, micros) {
-        Acceptance::NotAccepted(n) => ZonalAnswer::NoZonal(n),
-        Acceptance::Accepted(i) => ZonalAnswer::Zonal(corrections_at(i, micros)),
-    }
+    let index = t.accept()?;
+    Ok(corrections_at(index, t.micros))
 }

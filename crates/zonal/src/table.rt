@@ -1,8 +1,8 @@
-// The table of RG_ZONT2. A function that names one of these arrays makes it anew at each call, so each is named once for an instant and lent.
+// The table of RG_ZONT2.
 // Derived from the IERS routine RG_ZONT2; not IERS Conventions software (NOTICE, docs/DIFFERENCES.md).
 
 // The multipliers of l, l', F, D and Omega.
-pub const MULTIPLIERS: [[i8; 5]; 62] = [
+pub static MULTIPLIERS: [[i8; 5]; 62] = [
     [1, 0, 2, 2, 2],
     [2, 0, 2, 0, 1],
     [2, 0, 2, 0, 2],
@@ -68,7 +68,7 @@ pub const MULTIPLIERS: [[i8; 5]; 62] = [
 ];
 
 // The coefficients times 10^4: of the sine and the cosine in UT1, of the cosine and the sine in length of day, and of these two in the rate.
-pub const COEFFICIENTS: [[i64; 6]; 62] = [
+pub static COEFFICIENTS: [[i64; 6]; 62] = [
     [-235, 0, 2617, 0, -2209, 0],
     [-404, 0, 3706, 0, -3128, 0],
     [-987, 0, 9041, 0, -7630, 0],

@@ -1,48 +1,34 @@
 -- A coefficient is at most 2^24 and a sine below 2^32, so a product is at most 2^56 and the two together 2^57; with the sum before, at most
 -- `sum_most`, that is below 2^63. So each is read back from its bits as it was.
-use Rattle.std.proofs.Common.{◌≡◌, ℕ, ◌+◌, ◌*◌, ◌^◌, ◌<◌, ℤ, ◌+ℤ◌, ◌*ℤ◌, pos, nat_abs, List, [], get_or, ap, ◌∙◌}
+use Rattle.std.proofs.Common.{ℕ, ◌+◌, ◌*◌, ◌^◌, ◌≤◌, ◌<◌, ℤ, ◌+ℤ◌, ◌*ℤ◌, nat_abs, List, get_or}
 use Rattle.std.proofs.Math.Nat.{le_of_lt}
 use Rattle.std.proofs.Math.Dec.{lit≤}
-use Rattle.zonal.specs.Coefficients.{coefficients}
-use Rattle.zonal.proofs.Coefficients.{coefficient_small}
-use Rattle.zonal.specs.Exact.{row_count, coefficient}
-use Rattle.zonal.specs.Inner.{term, sum_most, RowBounds}
+use Rattle.algebra.specs.Integers.{+◌}
+use Rattle.zonal.specs.Inner.{row_term, sum_most, RowBounds}
 use Rattle.algebra.proofs.Bits.{read_back, InBits, bits_fit, bits_back, bits_given, bits_times, bits_plus}
 use Rattle.zonal.proofs.add_row.Goals as goal
-
--- what is read of the lent table
-abbrev cell : List (List ℤ) → ℕ → ℕ → ℤ
-cell t r j = read_back (get_or (get_or t r []) j (pos 0))
 
 -- the bound of a product
 abbrev product_bound : ℕ
 product_bound = 2 ^ 24 * 2 ^ 32
 
-product : {t : List (List ℤ)} (r j : ℕ) (p : ℤ) → t ≡ coefficients → r < row_count → nat_abs p < 2 ^ 32 → InBits (cell t r j *ℤ read_back p) (coefficient r j *ℤ p) product_bound
-product r j p e h k =
-    let g = bits_given (coefficient r j) (2 ^ 24) (coefficient_small r h j) (lit≤ tt) in
-    bits_times (record { is = ap (λ (l : List (List ℤ)). cell l r j) e ∙ g.is; most = g.most; room = g.room }) (bits_given p (2 ^ 32) (le_of_lt k) (lit≤ tt)) (lit≤ tt)
+product : (k p : ℤ) → nat_abs k ≤ 2 ^ 24 → nat_abs p < 2 ^ 32 → InBits (read_back k *ℤ read_back p) (k *ℤ p) product_bound
+product k p h l = bits_times (bits_given k (2 ^ 24) h (lit≤ tt)) (bits_given p (2 ^ 32) (le_of_lt l) (lit≤ tt)) (lit≤ tt)
 
-module _ {t : List (List ℤ)} {r j : ℕ} {v p q : ℤ} (b : RowBounds t r j v p q) where
-  abbrev first : ℤ
-  first = cell t r j *ℤ read_back p
+module _ {cs : List ℤ} {j : ℕ} {v p q : ℤ} (b : RowBounds cs j v p q) where
+  left : InBits (read_back (get_or cs j (+ 0)) *ℤ read_back p) (get_or cs j (+ 0) *ℤ p) product_bound
+  left = product (get_or cs j (+ 0)) p (b.coefficients j) b.first
 
-  abbrev second : ℤ
-  second = cell t r (j + 1) *ℤ read_back q
+  right : InBits (read_back (get_or cs (j + 1) (+ 0)) *ℤ read_back q) (get_or cs (j + 1) (+ 0) *ℤ q) product_bound
+  right = product (get_or cs (j + 1) (+ 0)) q (b.coefficients (j + 1)) b.second
 
   abbrev pair : ℤ
-  pair = read_back first +ℤ read_back second
+  pair = read_back (read_back (get_or cs j (+ 0)) *ℤ read_back p) +ℤ read_back (read_back (get_or cs (j + 1) (+ 0)) *ℤ read_back q)
 
-  left : InBits first (coefficient r j *ℤ p) product_bound
-  left = product r j p b.table b.row b.first
-
-  right : InBits second (coefficient r (j + 1) *ℤ q) product_bound
-  right = product r (j + 1) q b.table b.row b.second
-
-  both : InBits pair (term r j p q) (product_bound + product_bound)
+  both : InBits pair (row_term cs j p q) (product_bound + product_bound)
   both = bits_plus (bits_back left) (bits_back right) (lit≤ tt)
 
-  whole : InBits (read_back v +ℤ read_back pair) (v +ℤ term r j p q) (sum_most + (product_bound + product_bound))
+  whole : InBits (read_back v +ℤ read_back pair) (v +ℤ row_term cs j p q) (sum_most + (product_bound + product_bound))
   whole = bits_plus (bits_given v sum_most b.sum (lit≤ tt)) (bits_back both) (lit≤ tt)
 
 pub overflow_mul-result : goal.overflow_mul-result

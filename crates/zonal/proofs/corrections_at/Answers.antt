@@ -41,13 +41,13 @@ module _ {v : Sums} {m x : ℕ} (e : v ≡ sums_at m) (i : m ≡ x) where
   rate = ap (λ (s : Sums). s.rate) sums
 
 pub rounded-requires : goal.rounded-requires
-rounded-requires c = ready 10 (ut1 c.table_sums-v.ensures c.moment.ensures) (ut1_small (moment c.args.index c.args.micros))
+rounded-requires c = ready 10 (ut1 c.sums_at-v.ensures c.moment.ensures) (ut1_small (moment c.args.index c.args.micros))
 
 pub rounded-requires-2 : goal.rounded-requires-2
-rounded-requires-2 c = ready 1000 (lod c.table_sums-v.ensures c.moment.ensures) (lod_small (moment c.args.index c.args.micros))
+rounded-requires-2 c = ready 1000 (lod c.sums_at-v.ensures c.moment.ensures) (lod_small (moment c.args.index c.args.micros))
 
 pub rounded-requires-3 : goal.rounded-requires-3
-rounded-requires-3 c = ready 100 (rate c.table_sums-v.ensures c.moment.ensures) (rate_small (moment c.args.index c.args.micros))
+rounded-requires-3 c = ready 100 (rate c.sums_at-v.ensures c.moment.ensures) (rate_small (moment c.args.index c.args.micros))
 
 same : {a b c a' b' c' : ℤ} → a ≡ a' → b ≡ b' → c ≡ c' → corrections a b c ≡ corrections a' b' c'
 same p q r = cc
@@ -56,6 +56,6 @@ pub returns : goal.returns
 unfolding corrections_at
 returns c =
     let x = moment c.args.index c.args.micros in
-    same (number 10 (ut1 c.table_sums-v.ensures c.moment.ensures) (ut1_small x) c.rounded.ensures)
-    (number 1000 (lod c.table_sums-v.ensures c.moment.ensures) (lod_small x) c.rounded-2.ensures)
-    (number 100 (rate c.table_sums-v.ensures c.moment.ensures) (rate_small x) c.rounded-3.ensures)
+    same (number 10 (ut1 c.sums_at-v.ensures c.moment.ensures) (ut1_small x) c.rounded.ensures)
+    (number 1000 (lod c.sums_at-v.ensures c.moment.ensures) (lod_small x) c.rounded-2.ensures)
+    (number 100 (rate c.sums_at-v.ensures c.moment.ensures) (rate_small x) c.rounded-3.ensures)

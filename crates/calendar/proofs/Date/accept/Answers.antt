@@ -9,5 +9,5 @@ pub returns : goal.returns
 unfolding date_acceptance date_index
 returns c =
     let a = c.args.self in
-    let n : c.years.result + c.before-2.result + (a.day - 1) ≡ date_index (date a.year a.month a.day) = simp (c.years.ensures.days, c.before-2.ensures.days) in
+    let n : c.years.result + c.days_before.result + (a.day - 1) ≡ date_index (date a.year a.month a.day) = simp (c.years.ensures.days, c.days_before.ensures.days) in
     simp (c.if-self.false, c.if-self-2.false, ← c.month_length.ensures.days, c.if-self-month_length.false) (ap Ok n)

@@ -1,10 +1,19 @@
-use Rattle.std.proofs.Common.{rules, ◌≡◌, ◌||◌, ◌<◌, ◌≤◌, length, IfOk, IfErr, Err, ℕ, ◌+◌, ◌-◌, ◌*◌, ◌/◌, ◌%◌, Bool, true, false, nat_eq, nat_lt, List, [], ◌∷◌, ◌++◌, slice_index_or, slice_set, bit_and, bit_or, Fits, w8, w32, w64, Bor, MutBor}
-use Rattle.instants.specs.Refusals.{check}
-use Rattle.rows.specs.Table.{row_at, day_out, not_after, days_wrong, numbers_wrong, AcceptedTable}
-use Rattle.row_bytes.specs.Form.{head_length, row_length, row_in, row_count, table_in, form_cases, bytes_cases, AcceptedBytes}
-use Rattle.row_bytes.specs.Inner.{Whole}
+use Rattle.std.proofs.Common.{◌≡◌, ◌||◌, ℕ, Bool, true, false, List, length, refl, sym, ◌∙◌, arith, rules}
+use Rattle.std.proofs.lemmas.Iterator.{cases_from_any, YieldsList-from_range}
+use Rattle.rows.specs.Table.{row_at, day_out, not_after, days_wrong}
+use Rattle.row_bytes.specs.Form.{table_in}
+use Rattle.row_bytes.proofs.Reading.{table_count}
+use Rattle.row_bytes.proofs.Scans.{any_below}
 use Rattle.row_bytes.proofs.Rows.days_wrong.Goals as goal
 
--- src/lib.rt:104:5
+-- a row's test
+abbrev wrong : List ℕ → ℕ → Bool
+wrong s = λ i. day_out (row_at (table_in s) i) || not_after (table_in s) i
+
 pub returns : goal.returns
-returns c = ?
+unfolding days_wrong
+returns c =
+    let s = c.args.self.bytes.now in
+    let n : c.count.result ≡ length (table_in s) = c.count.ensures ∙ sym (table_count s) in
+    any_below (wrong s) (length (table_in s)) c.any.result
+    (cases_from_any _ _ _ (λ i. wrong s i ≡ true) (λ i. wrong s i ≡ false) c.any.ensures.ran (YieldsList-from_range 0 c.count.result (length (table_in s)) refl (omega (arith, n))) (λ x q k. search rules) (λ x q k. search rules))

@@ -1,9 +1,0 @@
--- Where the moments are one, both records are there.
-use Rattle.compare.proofs.Steps.{first_found, second_found, found_reads}
-use Rattle.compare.proofs.count_here.Goals as goal
-
-pub record_at-requires : goal.record_at-requires
-record_at-requires c = found_reads (first_found c.requires c.if-p-2.false)
-
-pub record_at-requires-2 : goal.record_at-requires-2
-record_at-requires-2 c = found_reads (second_found c.requires c.if-p.false)
