@@ -11,7 +11,7 @@ use lib.IntN.{pos}
 use lib.Ieee as Ieee
 use lib.Ieee.{Float, add, sub, mul, div, neg, rem, round, lt, le, eq, of_int, to_unsigned}
 use Rattle.instants.specs.Refusals.{case, first_refusal}
-use Rattle.instants.proofs.FirstRefusal.{handed_on, first_none, none_answered, refused_first}
+use Rattle.instants.proofs.FirstRefusal.{Refused, handed_on, first_none, none_answered, refused_first}
 use Rattle.instants.proofs.Accepted.{between}
 use Rattle.calendar.specs.Dates.{leap_year, month_lengths, sum, year_length}
 use Rattle.binary64.specs.Words.{whole, zero64, decimal64}
@@ -67,9 +67,9 @@ angles y d = handed_angles y d ∙ by (ltb y 1974 || ltb 2100 y) refl
 module _ (y : ℕ) (d : Float) where
   answered : angles_refusal_of (schwiderski_of y d) ≡ 0 → schwiderski_of y d ≡ Ok (angles_of (y - 1900) d)
   unfolding schwiderski_of
-  answered z = none_answered Err (angles_cases y d) _ (first_none (angles_cases y d) tt (sym (handed_angles y d) ∙ z))
+  answered z = none_answered Err (angles_cases y d) _ (first_none (angles_cases y d) (sym (handed_angles y d) ∙ z))
 
-  refused : (angles_refusal_of (schwiderski_of y d) ≡ 0 → ⊥) → schwiderski_of y d ≡ Err (first_refusal (angles_cases y d))
+  refused : (angles_refusal_of (schwiderski_of y d) ≡ 0 → ⊥) → Refused Err (angles_cases y d) (schwiderski_of y d)
   unfolding schwiderski_of
   refused h = refused_first Err (angles_cases y d) _ (λ z. h (handed_angles y d ∙ z))
 
@@ -77,10 +77,10 @@ module _ (y : ℕ) (d : Float) where
   angles_same z old = ap (angles_or old) (answered z) ∙ sym (ap eleven (answered z))
 
   pub angles_zeroed : (angles_refusal_of (schwiderski_of y d) ≡ 0 → ⊥) → (which : Angles → Float) → angle_of which (schwiderski_of y d) ≡ zero64
-  angles_zeroed h which = ap (angle_of which) (refused h)
+  angles_zeroed h which = ap (angle_of which) (refused h).refused
 
   pub angles_kept : (angles_refusal_of (schwiderski_of y d) ≡ 0 → ⊥) → (old : List Float) → angles_or old (schwiderski_of y d) ≡ old
-  angles_kept h old = ap (angles_or old) (refused h)
+  angles_kept h old = ap (angles_or old) (refused h).refused
 
 -- ---- demand 2
 -- PROMISE. Demand 2, of service (j).

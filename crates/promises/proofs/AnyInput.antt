@@ -8,7 +8,7 @@ use lib.IntN.{ℤ, pos}
 use lib.Ieee.{Float}
 use Rattle.instants.specs.Refusals.{Case, refused_or, first_refusal}
 use Rattle.instants.specs.Instants.{outside, instant_cases}
-use Rattle.instants.proofs.FirstRefusal.{handed_on, none_answered, refused_first, numbered, first_none}
+use Rattle.instants.proofs.FirstRefusal.{Refused, handed_on, none_answered, refused_first, first_none}
 use Rattle.calendar.specs.Dates.{date_cases, day_of, day_cases, date_of, day_number_or, date_refusal_of, year_or, month_or, day_of_month_or, day_refusal_of}
 use Rattle.calendar.specs.Times.{time_cases, instant_of, instant_day_or, instant_micros_or, instant_refusal_of}
 use Rattle.instants.specs.Moments.{moment_of}
@@ -20,13 +20,10 @@ use Rattle.binary64.specs.Words.{zero64}
 use Rattle.tide.specs.Tidal as tide
 use Rattle.tide.specs.declared.Doodson.{Doodson}
 use Rattle.tide.specs.declared.Constituent.{Constituent}
-use Rattle.tide.specs.declared.TideAnswer.TheVariants as tideCase
 use Rattle.tide.proofs.Promises.{in_full}
 use Rattle.zonal.specs.Ours as zonal
-use Rattle.zonal.specs.declared.ZonalAnswer.TheVariants as zonalCase
 use Rattle.row_places.proofs.Probes.{probes_refused, rows_probes_refused}
 use Rattle.nutation.specs.Ours as nutation
-use Rattle.nutation.specs.declared.NutationAnswer.TheVariants as nutationCase
 use Rattle.record.specs.Records.{write_cases, write_refusal, read_cases, read_of, record_day_or, record_micros_or, record_ut1_or, record_lod_or, record_rate_or, read_refusal_of}
 use Rattle.record.proofs.Kept as kept
 use Rattle.run.specs.Run.{run_cases, run_refusal}
@@ -67,11 +64,11 @@ join d t = handed_on Err join_refusal_of (λ n. refl) (join_cases d t) _
 
 corrections : (d : ℤ) (m : ℕ) → zonal.zonal_refusal_of (zonal.zonal_of d m) ≡ first_refusal (instant_cases d m)
 unfolding zonal.zonal_of
-corrections d m = handed_on zonalCase.NoZonal zonal.zonal_refusal_of (λ n. refl) (instant_cases d m) _
+corrections d m = handed_on Err zonal.zonal_refusal_of (λ n. refl) (instant_cases d m) _
 
 offsets : (d : ℤ) (m : ℕ) → nutation.nutation_refusal_of (nutation.nutation_of d m) ≡ first_refusal (instant_cases d m)
 unfolding nutation.nutation_of
-offsets d m = handed_on nutationCase.NoNutation nutation.nutation_refusal_of (λ n. refl) (instant_cases d m) _
+offsets d m = handed_on Err nutation.nutation_refusal_of (λ n. refl) (instant_cases d m) _
 
 write : (d : ℤ) (m n : ℕ) → write_refusal d m n ≡ first_refusal (write_cases d m n)
 unfolding write_refusal
@@ -89,27 +86,27 @@ run d m count step n = refl
 
 -- A number of a service's answer that is what stood there at every refusal, and at the answer a the answer's own. No case has the number 0, so that the
 -- refusal number tells which it is.
-module _ {A : Type 0} (refuse : ℕ → A) (refusal : A → ℕ) (cs : List Case) (a : A) (first : refusal (refused_or refuse cs a) ≡ first_refusal cs) (t : T (numbered cs)) where
-  number : {B : Type 0} (left : B → A → B) (zero : B) → ((n : ℕ) (old : B) → left old (refuse n) ≡ old) → ((old : B) → left old a ≡ left zero a)
+module _ {A : Type 0} (refuse : Refusal → A) (refusal : A → ℕ) (cs : List Case) (a : A) (first : refusal (refused_or refuse cs a) ≡ first_refusal cs) where
+  number : {B : Type 0} (left : B → A → B) (zero : B) → ((n : Refusal) (old : B) → left old (refuse n) ≡ old) → ((old : B) → left old a ≡ left zero a)
       → Number refusal (left zero) left zero (refused_or refuse cs a)
   number {B} left zero stays gives = record {
     same = λ z old.
-        let p = none_answered refuse cs a (first_none cs t (sym first ∙ z)) in
+        let p = none_answered refuse cs a (first_none cs (sym first ∙ z)) in
         ap (left old) p ∙ gives old ∙ sym (ap (left zero) p);
     zeroed = λ h. refused h zero;
     kept = refused;
   }
     where
       refused : (refusal (refused_or refuse cs a) ≡ 0 → ⊥) → (old : B) → left old (refused_or refuse cs a) ≡ old
-      refused h old = ap (left old) (refused_first refuse cs a (λ z. h (first ∙ z))) ∙ stays (first_refusal cs) old
+      refused h old = let r : Refused refuse cs (refused_or refuse cs a) = refused_first refuse cs a (λ z. h (first ∙ z)) in ap (left old) r.refused ∙ stays r.it old
 
 -- those of a phase, by the equation of its answer
 module _ (r : Reading) (k : Doodson) where
-  phase_number : (left : Float → Result Constituent Refusal → Float) → ((n : ℕ) (old : Float) → left old (tideCase.NoTide n) ≡ old) → ((x : Constituent) (old : Float) → left old (tideCase.Tide x) ≡ left zero64 (tideCase.Tide x))
+  phase_number : (left : Float → Result Constituent Refusal → Float) → ((n : Refusal) (old : Float) → left old (Err n) ≡ old) → ((x : Constituent) (old : Float) → left old (Ok x) ≡ left zero64 (Ok x))
       → Number tide.tide_refusal_of (left zero64) left zero64 (tide.tide_of r k)
   phase_number left stays gives =
       subst (λ (a : (Result Constituent Refusal)). Number tide.tide_refusal_of (left zero64) left zero64 a) (sym (in_full r k))
-      (number tideCase.NoTide tide.tide_refusal_of (reading_cases r ++ tide.range_cases k) _ (handed_on tideCase.NoTide tide.tide_refusal_of (λ n. refl) (reading_cases r ++ tide.range_cases k) _) tt
+      (number Err tide.tide_refusal_of (reading_cases r ++ tide.range_cases k) _ (handed_on Err tide.tide_refusal_of (λ n. refl) (reading_cases r ++ tide.range_cases k) _)
       left zero64 stays (gives _))
 
 -- PROMISE. Demand 1: any input is answered.
@@ -117,76 +114,76 @@ pub any_input_is_answered : AnyInputIsAnswered
 unfolding outside day_of date_of instant_of utc.tt_of utc.utc_of split_of join_of zonal.zonal_of nutation.nutation_of nutation.nutation_rows_of read_of kept_count ranges_in
 any_input_is_answered = record {
   date_to_day = date_to_day;
-  date_to_day_numbers = λ y m d. number Err date_refusal_of (date_cases y m d) _ (date_to_day y m d) tt day_number_or (pos 0) (λ _ _. refl) (λ _. refl);
+  date_to_day_numbers = λ y m d. number Err date_refusal_of (date_cases y m d) _ (date_to_day y m d) day_number_or (pos 0) (λ _ _. refl) (λ _. refl);
   day_to_date = day_to_date;
   day_to_date_numbers = λ z. (
-    number Err day_refusal_of (day_cases z) _ (day_to_date z) tt year_or 0 (λ _ _. refl) (λ _. refl),
-    number Err day_refusal_of (day_cases z) _ (day_to_date z) tt month_or 0 (λ _ _. refl) (λ _. refl),
-    number Err day_refusal_of (day_cases z) _ (day_to_date z) tt day_of_month_or 0 (λ _ _. refl) (λ _. refl),
+    number Err day_refusal_of (day_cases z) _ (day_to_date z) year_or 0 (λ _ _. refl) (λ _. refl),
+    number Err day_refusal_of (day_cases z) _ (day_to_date z) month_or 0 (λ _ _. refl) (λ _. refl),
+    number Err day_refusal_of (day_cases z) _ (day_to_date z) day_of_month_or 0 (λ _ _. refl) (λ _. refl),
   );
   date_and_time = date_and_time;
   date_and_time_numbers = λ y m d h n s u. (
-    number Err instant_refusal_of (date_cases y m d ++ time_cases 59 h n s u) _ (date_and_time y m d h n s u) tt instant_day_or (pos 0) (λ _ _. refl) (λ _. refl),
-    number Err instant_refusal_of (date_cases y m d ++ time_cases 59 h n s u) _ (date_and_time y m d h n s u) tt instant_micros_or 0 (λ _ _. refl) (λ _. refl),
+    number Err instant_refusal_of (date_cases y m d ++ time_cases 59 h n s u) _ (date_and_time y m d h n s u) instant_day_or (pos 0) (λ _ _. refl) (λ _. refl),
+    number Err instant_refusal_of (date_cases y m d ++ time_cases 59 h n s u) _ (date_and_time y m d h n s u) instant_micros_or 0 (λ _ _. refl) (λ _. refl),
   );
   split = split;
   split_numbers = λ d m. (
-    number Err split_refusal_of (instant_cases d m) _ (split d m) tt day_word_or (pos 0) (λ _ _. refl) (λ _. refl),
-    number Err split_refusal_of (instant_cases d m) _ (split d m) tt time_word_or 0 (λ _ _. refl) (λ _. refl),
+    number Err split_refusal_of (instant_cases d m) _ (split d m) day_word_or (pos 0) (λ _ _. refl) (λ _. refl),
+    number Err split_refusal_of (instant_cases d m) _ (split d m) time_word_or 0 (λ _ _. refl) (λ _. refl),
   );
   join = join;
   join_numbers = λ d t. (
-    number Err join_refusal_of (join_cases d t) _ (join d t) tt joined_day_or (pos 0) (λ _ _. refl) (λ _. refl),
-    number Err join_refusal_of (join_cases d t) _ (join d t) tt joined_micros_or 0 (λ _ _. refl) (λ _. refl),
+    number Err join_refusal_of (join_cases d t) _ (join d t) joined_day_or (pos 0) (λ _ _. refl) (λ _. refl),
+    number Err join_refusal_of (join_cases d t) _ (join d t) joined_micros_or 0 (λ _ _. refl) (λ _. refl),
   );
   phase = phase;
   phase_numbers = λ r k. (phase_number r k tide.frequency_or (λ _ _. refl) (λ _ _. refl), phase_number r k tide.phase_or (λ _ _. refl) (λ _ _. refl));
   corrections = corrections;
   corrections_numbers = λ d m. (
-    number zonalCase.NoZonal zonal.zonal_refusal_of (instant_cases d m) _ (corrections d m) tt zonal.ut1_or (pos 0) (λ _ _. refl) (λ _. refl),
-    number zonalCase.NoZonal zonal.zonal_refusal_of (instant_cases d m) _ (corrections d m) tt zonal.lod_or (pos 0) (λ _ _. refl) (λ _. refl),
-    number zonalCase.NoZonal zonal.zonal_refusal_of (instant_cases d m) _ (corrections d m) tt zonal.rate_or (pos 0) (λ _ _. refl) (λ _. refl),
+    number Err zonal.zonal_refusal_of (instant_cases d m) _ (corrections d m) zonal.ut1_or (pos 0) (λ _ _. refl) (λ _. refl),
+    number Err zonal.zonal_refusal_of (instant_cases d m) _ (corrections d m) zonal.lod_or (pos 0) (λ _ _. refl) (λ _. refl),
+    number Err zonal.zonal_refusal_of (instant_cases d m) _ (corrections d m) zonal.rate_or (pos 0) (λ _ _. refl) (λ _. refl),
   );
   offsets = offsets;
   offsets_numbers = λ d m. (
-    number nutationCase.NoNutation nutation.nutation_refusal_of (instant_cases d m) _ (offsets d m) tt nutation.x_or (pos 0) (λ _ _. refl) (λ _. refl),
-    number nutationCase.NoNutation nutation.nutation_refusal_of (instant_cases d m) _ (offsets d m) tt nutation.y_or (pos 0) (λ _ _. refl) (λ _. refl),
-    number nutationCase.NoNutation nutation.nutation_refusal_of (instant_cases d m) _ (offsets d m) tt nutation.uncertainty_or 0 (λ _ _. refl) (λ _. refl),
+    number Err nutation.nutation_refusal_of (instant_cases d m) _ (offsets d m) nutation.x_or (pos 0) (λ _ _. refl) (λ _. refl),
+    number Err nutation.nutation_refusal_of (instant_cases d m) _ (offsets d m) nutation.y_or (pos 0) (λ _ _. refl) (λ _. refl),
+    number Err nutation.nutation_refusal_of (instant_cases d m) _ (offsets d m) nutation.uncertainty_or 0 (λ _ _. refl) (λ _. refl),
   );
   probes_zeroed = λ d m h. probes_refused d m (λ z. h (offsets d m ∙ z));
   rows_offsets = rows_offsets;
   rows_probes_zeroed = λ s d m h. rows_probes_refused s d m (λ z. h (handed_rows s d m ∙ z));
   rows_offsets_numbers = λ s d m. (
-    number nutationCase.NoNutation nutation.nutation_refusal_of (bytes_cases s ++ instant_cases d m) _ (handed_rows s d m) tt nutation.x_or (pos 0) (λ _ _. refl) (λ _. refl),
-    number nutationCase.NoNutation nutation.nutation_refusal_of (bytes_cases s ++ instant_cases d m) _ (handed_rows s d m) tt nutation.y_or (pos 0) (λ _ _. refl) (λ _. refl),
-    number nutationCase.NoNutation nutation.nutation_refusal_of (bytes_cases s ++ instant_cases d m) _ (handed_rows s d m) tt nutation.uncertainty_or 0 (λ _ _. refl) (λ _. refl),
+    number Err nutation.nutation_refusal_of (bytes_cases s ++ instant_cases d m) _ (handed_rows s d m) nutation.x_or (pos 0) (λ _ _. refl) (λ _. refl),
+    number Err nutation.nutation_refusal_of (bytes_cases s ++ instant_cases d m) _ (handed_rows s d m) nutation.y_or (pos 0) (λ _ _. refl) (λ _. refl),
+    number Err nutation.nutation_refusal_of (bytes_cases s ++ instant_cases d m) _ (handed_rows s d m) nutation.uncertainty_or 0 (λ _ _. refl) (λ _. refl),
   );
   record_write = write;
   record_write_keeps = kept.refused_unchanged;
   record_read = read;
   record_read_numbers = λ s. (
-    number Err read_refusal_of (read_cases s) _ (read s) tt record_day_or (pos 0) (λ _ _. refl) (λ _. refl),
-    number Err read_refusal_of (read_cases s) _ (read s) tt record_micros_or 0 (λ _ _. refl) (λ _. refl),
-    number Err read_refusal_of (read_cases s) _ (read s) tt record_ut1_or (pos 0) (λ _ _. refl) (λ _. refl),
-    number Err read_refusal_of (read_cases s) _ (read s) tt record_lod_or (pos 0) (λ _ _. refl) (λ _. refl),
-    number Err read_refusal_of (read_cases s) _ (read s) tt record_rate_or (pos 0) (λ _ _. refl) (λ _. refl),
+    number Err read_refusal_of (read_cases s) _ (read s) record_day_or (pos 0) (λ _ _. refl) (λ _. refl),
+    number Err read_refusal_of (read_cases s) _ (read s) record_micros_or 0 (λ _ _. refl) (λ _. refl),
+    number Err read_refusal_of (read_cases s) _ (read s) record_ut1_or (pos 0) (λ _ _. refl) (λ _. refl),
+    number Err read_refusal_of (read_cases s) _ (read s) record_lod_or (pos 0) (λ _ _. refl) (λ _. refl),
+    number Err read_refusal_of (read_cases s) _ (read s) record_rate_or (pos 0) (λ _ _. refl) (λ _. refl),
   );
   run_write = run;
   run_write_keeps = records.refused_unchanged;
   utc_to_tt = utc_to_tt;
   utc_to_tt_numbers = λ r. (
-    number Err instant_refusal_of (reading_cases r) _ (handed_readings r) tt instant_day_or (pos 0) (λ _ _. refl) (λ _. refl),
-    number Err instant_refusal_of (reading_cases r) _ (handed_readings r) tt instant_micros_or 0 (λ _ _. refl) (λ _. refl),
+    number Err instant_refusal_of (reading_cases r) _ (handed_readings r) instant_day_or (pos 0) (λ _ _. refl) (λ _. refl),
+    number Err instant_refusal_of (reading_cases r) _ (handed_readings r) instant_micros_or 0 (λ _ _. refl) (λ _. refl),
   );
   tt_to_utc = tt_to_utc;
   tt_to_utc_numbers = λ d m. (
-    number Err utc.reading_refusal_of (instant_cases d m ++ utc.moment_cases (moment_of d m)) _ (handed_instants d m) tt utc.reading_year_or 0 (λ _ _. refl) (λ _. refl),
-    number Err utc.reading_refusal_of (instant_cases d m ++ utc.moment_cases (moment_of d m)) _ (handed_instants d m) tt utc.reading_month_or 0 (λ _ _. refl) (λ _. refl),
-    number Err utc.reading_refusal_of (instant_cases d m ++ utc.moment_cases (moment_of d m)) _ (handed_instants d m) tt utc.reading_day_or 0 (λ _ _. refl) (λ _. refl),
-    number Err utc.reading_refusal_of (instant_cases d m ++ utc.moment_cases (moment_of d m)) _ (handed_instants d m) tt utc.reading_hour_or 0 (λ _ _. refl) (λ _. refl),
-    number Err utc.reading_refusal_of (instant_cases d m ++ utc.moment_cases (moment_of d m)) _ (handed_instants d m) tt utc.reading_minute_or 0 (λ _ _. refl) (λ _. refl),
-    number Err utc.reading_refusal_of (instant_cases d m ++ utc.moment_cases (moment_of d m)) _ (handed_instants d m) tt utc.reading_second_or 0 (λ _ _. refl) (λ _. refl),
-    number Err utc.reading_refusal_of (instant_cases d m ++ utc.moment_cases (moment_of d m)) _ (handed_instants d m) tt utc.reading_microsecond_or 0 (λ _ _. refl) (λ _. refl),
+    number Err utc.reading_refusal_of (instant_cases d m ++ utc.moment_cases (moment_of d m)) _ (handed_instants d m) utc.reading_year_or 0 (λ _ _. refl) (λ _. refl),
+    number Err utc.reading_refusal_of (instant_cases d m ++ utc.moment_cases (moment_of d m)) _ (handed_instants d m) utc.reading_month_or 0 (λ _ _. refl) (λ _. refl),
+    number Err utc.reading_refusal_of (instant_cases d m ++ utc.moment_cases (moment_of d m)) _ (handed_instants d m) utc.reading_day_or 0 (λ _ _. refl) (λ _. refl),
+    number Err utc.reading_refusal_of (instant_cases d m ++ utc.moment_cases (moment_of d m)) _ (handed_instants d m) utc.reading_hour_or 0 (λ _ _. refl) (λ _. refl),
+    number Err utc.reading_refusal_of (instant_cases d m ++ utc.moment_cases (moment_of d m)) _ (handed_instants d m) utc.reading_minute_or 0 (λ _ _. refl) (λ _. refl),
+    number Err utc.reading_refusal_of (instant_cases d m ++ utc.moment_cases (moment_of d m)) _ (handed_instants d m) utc.reading_second_or 0 (λ _ _. refl) (λ _. refl),
+    number Err utc.reading_refusal_of (instant_cases d m ++ utc.moment_cases (moment_of d m)) _ (handed_instants d m) utc.reading_microsecond_or 0 (λ _ _. refl) (λ _. refl),
   );
   rescue = rescue_refusal;
   rescue_zeroed = rescue_zeroed;

@@ -7,7 +7,7 @@
 use Rattle.std.specs.Prelude.{ℕ, zero, suc, ◌+◌, ◌-◌, ◌*◌, ◌/◌, ◌%◌, ◌≡◌, Bool, cond, not, ◌&&◌, ◌||◌, List, [], ◌∷◌, ◌++◌, ltb, leb, eqb, ℤ, pos, neg_ℤ, Float, length, drop, Result}
 use Rattle.std.specs.Float.Ieee as Ieee
 use Rattle.std.specs.Int.Signed.{lt_z, le_z}
-use Rattle.instants.specs.Refusals.{Case, case, first_refusal}
+use Rattle.promises.specs.Figures.{Case, case, first_refusal}
 use Rattle.instants.specs.Instants.{later_day}
 use Rattle.calendar.specs.Claims.{earlier, one_of}
 use Rattle.calendar.specs.declared.Date.{Date}
@@ -27,78 +27,77 @@ use Rattle.row_places.specs.Lookup.{probes_of, probes_rows_of}
 use Rattle.nutation.specs.Ours as nutation
 use Rattle.bigendian.specs.Numbers.{number_at, word_sum, signed_of}
 use Rattle.rows.specs.Table.{some_below}
+use Rattle.record.specs.declared.Record.{Record}
+use Rattle.instants.specs.declared.refusal.Refusal.{Refusal}
 use Rattle.record.specs.Records.{write_refusal, written, read_of, record_day_of, record_day_or, record_micros_of, record_micros_or, record_ut1_of, record_ut1_or, record_lod_of, record_lod_or, record_rate_of, record_rate_or, read_refusal_of}
 use Rattle.compare.specs.Compare as compared
 use Rattle.compare.specs.Compare.{entries_of, compare_of, entries_number_of, compare_refusal_of}
 use Rattle.run.specs.Run.{run_refusal, run_written}
 use Rattle.rescue.specs.Walk.{walk, ranges_of}
 use Rattle.rescue.specs.Rescue.{rescue_of, records_after, list_after, kept_of, ranges_number_of, passed_of, rescue_refusal_of}
-use Rattle.record.specs.declared.Record.{Record}
-use Rattle.instants.specs.declared.refusal.Refusal.{Refusal}
-use Rattle.instants.specs.declared.refusal.Refusal.TheVariants.{Year, Month, DayOfMonth, Hour, Minute, Second, Microsecond, Day, Micros, WordsDisagree, Multiplier, BufferShort, RecordLength, RecordVersion, RecordZero, RecordSum, RunCount, RunStep, UtcEarly, UtcExpired, RowsLength, RowsVersion, RowsDay, RowsSize, RescueLength, DayOfYear, FileLength, FileOrder}
 
 -- ---- when each number is given
 
 -- a date's year, month and day
 abbrev pub refusal1 : ℕ → Case
-refusal1 y = case Year (ltb y 1900 || ltb 2100 y)
+refusal1 y = case 1 (ltb y 1900 || ltb 2100 y)
 
 abbrev pub refusal2 : ℕ → Case
-refusal2 m = case Month (ltb m 1 || ltb 12 m)
+refusal2 m = case 2 (ltb m 1 || ltb 12 m)
 
 abbrev pub refusal3 : (y m d : ℕ) → Case
-refusal3 y m d = case DayOfMonth (ltb d 1 || ltb (month_length y m) d)
+refusal3 y m d = case 3 (ltb d 1 || ltb (month_length y m) d)
 
 -- an hour, a minute, a second and a microsecond
 abbrev pub refusal4 : ℕ → Case
-refusal4 hour = case Hour (ltb 23 hour)
+refusal4 hour = case 4 (ltb 23 hour)
 
 abbrev pub refusal5 : ℕ → Case
-refusal5 minute = case Minute (ltb 59 minute)
+refusal5 minute = case 5 (ltb 59 minute)
 
 abbrev pub refusal6 : ℕ → Case
-refusal6 second = case Second (ltb 59 second)
+refusal6 second = case 6 (ltb 59 second)
 
 abbrev pub refusal7 : ℕ → Case
-refusal7 microsecond = case Microsecond (ltb 999_999 microsecond)
+refusal7 microsecond = case 7 (ltb 999_999 microsecond)
 
 -- a day number; the day number of a run's last instant, which comes after an accepted start; microseconds of a day
 abbrev pub refusal8 : ℤ → Case
-refusal8 d = case Day (lt_z d (pos 15020) || lt_z (pos 88433) d)
+refusal8 d = case 8 (lt_z d (pos 15020) || lt_z (pos 88433) d)
 
 abbrev pub refusal8_last : ℤ → Case
-refusal8_last d = case Day (lt_z (pos 88433) d)
+refusal8_last d = case 8 (lt_z (pos 88433) d)
 
 abbrev pub refusal9 : ℕ → Case
-refusal9 m = case Micros (leb 86_400_000_000 m)
+refusal9 m = case 9 (leb 86_400_000_000 m)
 
 -- a day word and a time word whose marks differ
 abbrev pub refusal10 : ℤ → ℕ → Case
-refusal10 d t = case WordsDisagree (not (eqb (t / 137_438_953_472) (mark d)))
+refusal10 d t = case 10 (not (eqb (t / 137_438_953_472) (mark d)))
 
 -- six multipliers, of which one is outside -12 to 12
 abbrev pub in_range : ℤ → Bool
 in_range k = le_z (neg_ℤ (pos 12)) k && le_z k (pos 12)
 
 abbrev pub refusal11 : Doodson → Case
-refusal11 k = case Multiplier (not (((((in_range k.k1 && in_range k.k2) && in_range k.k3) && in_range k.k4) && in_range k.k5) && in_range k.k6))
+refusal11 k = case 11 (not (((((in_range k.k1 && in_range k.k2) && in_range k.k3) && in_range k.k4) && in_range k.k5) && in_range k.k6))
 
 -- a buffer of n bytes where `needed` are needed
 abbrev pub refusal12 : (n needed : ℕ) → Case
-refusal12 n needed = case BufferShort (ltb n needed)
+refusal12 n needed = case 12 (ltb n needed)
 
 -- a record's length field, its version, byte 3, and the sum of its fifteen words
 abbrev pub refusal13 : List ℕ → Case
-refusal13 s = case RecordLength (not (eqb (number_at s 0 2) 30))
+refusal13 s = case 13 (not (eqb (number_at s 0 2) 30))
 
 abbrev pub refusal14 : List ℕ → Case
-refusal14 s = case RecordVersion (not (eqb (number_at s 2 1) 1))
+refusal14 s = case 14 (not (eqb (number_at s 2 1) 1))
 
 abbrev pub refusal15 : List ℕ → Case
-refusal15 s = case RecordZero (not (eqb (number_at s 3 1) 0))
+refusal15 s = case 15 (not (eqb (number_at s 3 1) 0))
 
 abbrev pub refusal16 : List ℕ → Case
-refusal16 s = case RecordSum (not (eqb (word_sum s 15 % 65536) 0))
+refusal16 s = case 16 (not (eqb (word_sum s 15 % 65536) 0))
 
 -- the day word and the time word of a record
 abbrev pub record_day_word : List ℕ → ℤ
@@ -109,10 +108,10 @@ record_time_word s = number_at s 8 8
 
 -- a run's count and step
 abbrev pub refusal17 : ℕ → Case
-refusal17 count = case RunCount (ltb count 1 || ltb 96 count)
+refusal17 count = case 17 (ltb count 1 || ltb 96 count)
 
 abbrev pub refusal18 : ℕ → Case
-refusal18 step = case RunStep (ltb step 1 || ltb 86_400_000_000 step)
+refusal18 step = case 18 (ltb step 1 || ltb 86_400_000_000 step)
 
 -- the 27 days that have a second 60, in their last minute
 unfoldable pub days_with_second60 : List Date
@@ -123,14 +122,14 @@ days_with_second60 =
 
 -- the second of a UTC reading
 abbrev pub refusal6_utc : (y m d hour minute second : ℕ) → Case
-refusal6_utc y m d hour minute second = case Second (ltb (cond ((eqb hour 23 && eqb minute 59) && one_of y m d days_with_second60) 60 59) second)
+refusal6_utc y m d hour minute second = case 6 (ltb (cond ((eqb hour 23 && eqb minute 59) && one_of y m d days_with_second60) 60 59) second)
 
 -- a UTC date before the list of leap seconds begins, and one from which on it has expired
 abbrev pub refusal19_utc : (y m d : ℕ) → Case
-refusal19_utc y m d = case UtcEarly (earlier y m d (date 1972 1 1))
+refusal19_utc y m d = case 19 (earlier y m d (date 1972 1 1))
 
 abbrev pub refusal20_utc : (y m d : ℕ) → Case
-refusal20_utc y m d = case UtcExpired (not (earlier y m d (date 2025 6 28)))
+refusal20_utc y m d = case 20 (not (earlier y m d (date 2025 6 28)))
 
 -- the refusals of a UTC reading
 abbrev pub reading_refusals : Reading → List Case
@@ -145,10 +144,10 @@ instant_before d m e n = lt_z d e || (le_z d e && ltb m n)
 
 -- an instant before 1972-01-01 0 h UTC, and one from 2025-06-28 0 h UTC on
 abbrev pub refusal19_tt : ℤ → ℕ → Case
-refusal19_tt d m = case UtcEarly (instant_before d m (pos 41317) 42_184_000)
+refusal19_tt d m = case 19 (instant_before d m (pos 41317) 42_184_000)
 
 abbrev pub refusal20_tt : ℤ → ℕ → Case
-refusal20_tt d m = case UtcExpired (not (instant_before d m (pos 60854) 69_184_000))
+refusal20_tt d m = case 20 (not (instant_before d m (pos 60854) 69_184_000))
 
 -- the bytes of a table of rows: 3 + 16 n for n from 2 to 200, so from 35 to 3203, and 3 above a multiple of 16
 abbrev pub table_length : ℕ → Bool
@@ -156,11 +155,11 @@ table_length n = leb 35 n && (leb n 3203 && eqb (n % 16) 3)
 
 -- fewer than three bytes, a length field that is not their number, or a number that no table has
 abbrev pub refusal21 : List ℕ → Case
-refusal21 s = case RowsLength (ltb (length s) 3 || (not (eqb (number_at s 0 2) (length s)) || not (table_length (length s))))
+refusal21 s = case 21 (ltb (length s) 3 || (not (eqb (number_at s 0 2) (length s)) || not (table_length (length s))))
 
 -- the version
 abbrev pub refusal22 : List ℕ → Case
-refusal22 s = case RowsVersion (not (eqb (number_at s 2 1) 1))
+refusal22 s = case 22 (not (eqb (number_at s 2 1) 1))
 
 -- the number of rows
 abbrev pub table_rows : List ℕ → ℕ
@@ -185,7 +184,7 @@ table_uncertainty s i = signed_of 4 (number_at s (15 + 16 * i) 4)
 -- in some row a day that is out of its limits, or not after that of the row before
 abbrev pub refusal23 : List ℕ → Case
 refusal23 s =
-    case RowsDay (some_below (table_rows s) (λ i. (ltb (table_day s i) 15020 || ltb 88433 (table_day s i)) || (ltb 0 i && leb (table_day s i) (table_day s (i - 1)))))
+    case 23 (some_below (table_rows s) (λ i. (ltb (table_day s i) 15020 || ltb 88433 (table_day s i)) || (ltb 0 i && leb (table_day s i) (table_day s (i - 1)))))
 
 -- an amplitude outside -1000 to 1000 microarcseconds
 abbrev pub beyond : ℤ → Bool
@@ -194,23 +193,23 @@ beyond z = lt_z z (neg_ℤ (pos 100_000)) || lt_z (pos 100_000) z
 -- in some row such an amplitude, or an uncertainty that is not above 0 and at most 1000 microarcseconds
 abbrev pub refusal24 : List ℕ → Case
 refusal24 s =
-    case RowsSize (some_below (table_rows s) (λ i. beyond (table_Xc s i) || (beyond (table_Xs s i) || (lt_z (table_uncertainty s i) (pos 1) || lt_z (pos 100_000) (table_uncertainty s i)))))
+    case 24 (some_below (table_rows s) (λ i. beyond (table_Xc s i) || (beyond (table_Xs s i) || (lt_z (table_uncertainty s i) (pos 1) || lt_z (pos 100_000) (table_uncertainty s i)))))
 
 -- an input of more than 65,536 bytes
 abbrev pub refusal25 : List ℕ → Case
-refusal25 s = case RescueLength (ltb 65536 (length s))
+refusal25 s = case 25 (ltb 65536 (length s))
 
 -- two buffers of n and m bytes, of which one or both are shorter than is needed
 abbrev pub refusal12_two : (n needed m needed' : ℕ) → Case
-refusal12_two n needed m needed' = case BufferShort (ltb n needed || ltb m needed')
+refusal12_two n needed m needed' = case 12 (ltb n needed || ltb m needed')
 
 -- the year of an angle
 abbrev pub refusal1_angles : ℕ → Case
-refusal1_angles y = case Year (ltb y 1974 || ltb 2100 y)
+refusal1_angles y = case 1 (ltb y 1974 || ltb 2100 y)
 
 -- a day of one of these years that is not at least 1 and below 366, or below 367 in every fourth of them but 2100
 abbrev pub refusal26 : ℕ → Float → Case
-refusal26 y d = case DayOfYear (not (Ieee.le (whole (pos 1)) d && Ieee.lt d (whole (pos (cond (eqb (y % 4) 0 && not (eqb y 2100)) 367 366)))))
+refusal26 y d = case 26 (not (Ieee.le (whole (pos 1)) d && Ieee.lt d (whole (pos (cond (eqb (y % 4) 0 && not (eqb y 2100)) 367 366)))))
 
 -- what reading record k of a file gives, counted from 0
 abbrev pub read_at : List ℕ → ℕ → Result Record Refusal
@@ -218,7 +217,7 @@ read_at s k = read_of (drop (30 * k) s)
 
 -- a file's length: no multiple of thirty, or above 65,520
 abbrev pub refusal27 : List ℕ → Case
-refusal27 s = case FileLength (not (eqb (length s % 30) 0) || ltb 65520 (length s))
+refusal27 s = case 27 (not (eqb (length s % 30) 0) || ltb 65520 (length s))
 
 -- the cases f 0, f 1, .. f (n - 1)
 abbrev pub cases_below : ℕ → (ℕ → Case) → List Case
@@ -235,7 +234,7 @@ not_before a b = not (instant_before (record_day_of a) (record_micros_of a) (rec
 
 -- an instant that is not before the next
 abbrev pub refusal28 : List ℕ → Case
-refusal28 s = case FileOrder (some_below (length s / 30 - 1) (λ k. not_before (read_at s k) (read_at s (suc k))))
+refusal28 s = case 28 (some_below (length s / 30 - 1) (λ k. not_before (read_at s k) (read_at s (suc k))))
 
 -- the refusals of a file
 abbrev pub file_refusals : List ℕ → List Case
