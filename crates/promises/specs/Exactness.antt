@@ -28,7 +28,6 @@ use Rattle.binary64.specs.Claims.{Finite, InRange, within}
 use Rattle.tide.specs.Tidal.{day_fraction, centuries, arguments_of, constituent_of, turn64, all_in_range, tide_of, frequency_of, phase_of, doodson}
 use Rattle.tide.specs.Claims.{m2}
 use Rattle.tide.specs.declared.Doodson.{Doodson}
-use Rattle.tide.specs.declared.TideAnswer.TheVariants as tideCase
 use Rattle.bigendian.specs.Numbers.{Bytes}
 use Rattle.rows.specs.declared.Row.{Row}
 use Rattle.rows.specs.declared.Place.TheVariants.{Between}
@@ -75,7 +74,7 @@ pub record Exactness : Type 0 where
   pub accepted_reading_has_phases : (r : Reading) → AcceptedReading r → (p : PhaseInstant) × (p.utc ≡ r)
   -- frequency and phase are the expression in its order: the fraction of 360 f is the reading's, and the centuries are those of its instant
   pub corrected_expression : (r : Reading) (t : Instant) (k : Doodson) → tt_of r ≡ Ok t → T (all_in_range k)
-      → tide_of r k ≡ tideCase.Tide (constituent_of (arguments_of (day_fraction (reading_micros r)) (centuries t.day (day_fraction t.micros))) k)
+      → tide_of r k ≡ Ok (constituent_of (arguments_of (day_fraction (reading_micros r)) (centuries t.day (day_fraction t.micros))) k)
   -- in second 60 that fraction is of a whole day and the reading's microseconds, and as a number of binary64 1 or more
   pub second_60_past_the_day : (r : Reading) → AcceptedReading r → 59 < r.second
       → (reading_micros r ≡ 86_400_000_000 + r.microsecond) × T (le (whole (pos 1)) (day_fraction (reading_micros r)))
@@ -88,7 +87,7 @@ pub record Exactness : Type 0 where
   pub frequency_finite : (r : Reading) (k : Doodson) → Finite (frequency_of (tide_of r k))
   pub phase_in_turn : (r : Reading) (k : Doodson) → InRange turn64 (phase_of (tide_of r k))
   pub zeros_give_zero : (r : Reading) → AcceptedReading r
-      → tide_of r (doodson (pos 0) (pos 0) (pos 0) (pos 0) (pos 0) (pos 0)) ≡ tideCase.Tide (record { frequency = zero64; phase = zero64 })
+      → tide_of r (doodson (pos 0) (pos 0) (pos 0) (pos 0) (pos 0) (pos 0)) ≡ Ok (record { frequency = zero64; phase = zero64 })
   -- (f) accepted bytes hold a table that keeps the rules, and are that table's byte form
   pub table_keeps_rules : (s : List ℕ) → AcceptedBytes s → KeepsRules (table_in s)
   pub table_written_again : (s : List ℕ) → Bytes s → AcceptedBytes s → table_bytes (table_in s) ≡ s
