@@ -5,44 +5,43 @@ use mathlib.Core.Path.{◌≡◌, refl, sym}
 use lib.IntN.{ℤ}
 use lib.ListN.{length}
 use mathlib.Core.List.{List}
-use Rattle.instants.specs.Refusals.{refused_or}
+use Rattle.instants.specs.declared.refusal.Refusal.{Refusal}
+use Rattle.instants.specs.Refusals.{refused_or, check}
 use Rattle.calendar.specs.Dates.{date_cases, day_of}
 use Rattle.instants.proofs.Impossible.{impossible}
-use Rattle.instants.proofs.FirstRefusal.{refused_alike, answered_none, none_answered, refused_first, first_none}
+use Rattle.instants.proofs.FirstRefusal.{refused_alike, answered_none, none_answered, refused_checked, passed_none}
 use Rattle.line.specs.declared.Line.{Line}
 use Rattle.line.specs.Lines.{line_of}
 use Rattle.record.specs.Format.{record_length}
-use Rattle.run.specs.Run.{run_refusal, run_written, run_bytes}
-use Rattle.run.proofs.Records.{run_length, run_written_lem, refused_unchanged}
+use Rattle.run.specs.Run.{run_written, run_bytes}
+use Rattle.run.proofs.Records.{run_length}
 use Rattle.calendar.specs.Limits.{second_micros}
 use Rattle.text.specs.Text.{refusal_text}
 use Rattle.text.proofs.Pieces.{Puts}
 use Rattle.run_line.specs.Words.{bad_text}
 use Rattle.run_line.specs.Answer.{room, line_day, day_run_cases, day_run_text, answer_text}
-use Rattle.std.specs.Prelude.{Ok, Err, Some, None}
+use Rattle.std.specs.Prelude.{Ok, Err, Some, None, ⊤}
 
 -- ---- the run of a day
 
 module _ (d : ℤ) (count step : ℕ) where
-  abbrev refusal : ℕ
-  refusal = run_refusal d 0 count (step * second_micros) room
-
   module _ (old : List ℕ) (long : length old ≡ room) where
     -- a run that is refused leaves the buffer to its refusal's text
-    pub no_run : (refusal ≡ 0 → ⊥) → (refusal_text refusal ≡ day_run_text d count step) × (run_written d 0 count (step * second_micros) old ≡ old)
-    unfolding run_refusal day_run_text
-    no_run h = (
-      sym (refused_first refusal_text (day_run_cases d count step) _ h),
-      refused_unchanged d 0 count (step * second_micros) old (rw long h),
+    pub no_run : (r : Refusal) → check (day_run_cases d count step) ≡ Err r → (refusal_text r ≡ day_run_text d count step) × (run_written d 0 count (step * second_micros) old ≡ old)
+    unfolding day_run_text run_written
+    no_run r e = (
+      sym (refused_checked refusal_text (day_run_cases d count step) _ r e),
+      rw long (refused_checked (λ _. old) (day_run_cases d count step) _ r e),
     )
 
     -- and one that is not refused is what is written
-    pub a_run : refusal ≡ 0 → Puts (day_run_text d count step) old (record_length * count) (run_written d 0 count (step * second_micros) old)
-    unfolding run_refusal day_run_text
-    a_run e =
+    pub a_run : (u : ⊤) → check (day_run_cases d count step) ≡ Ok u → Puts (day_run_text d count step) old (record_length * count) (run_written d 0 count (step * second_micros) old)
+    unfolding day_run_text run_written
+    a_run u e =
+        let n = passed_none (day_run_cases d count step) u e in
         let t : refused_or refusal_text (day_run_cases d count step) (run_bytes d 0 (step * second_micros) count) ≡ run_bytes d 0 (step * second_micros) count =
-        none_answered refusal_text (day_run_cases d count step) _ (first_none (day_run_cases d count step) tt e) in
-        rw t (sym (run_length d 0 (step * second_micros) count), run_written_lem d 0 count (step * second_micros) old (rw long e))
+        none_answered refusal_text (day_run_cases d count step) _ n in
+        rw (t, long) (sym (run_length d 0 (step * second_micros) count), none_answered (λ _. old) (day_run_cases d count step) _ n)
 
 -- ---- a line
 
@@ -52,7 +51,7 @@ module _ (s : List ℕ) where
   bad e = rw e refl
 
   module _ (l : Line) (e : line_of s ≡ Some l) where
-    pub no_date : (n : ℕ) → day_of l.year l.month l.day ≡ Err n → refusal_text n ≡ answer_text s
+    pub no_date : (n : Refusal) → day_of l.year l.month l.day ≡ Err n → refusal_text n ≡ answer_text s
     unfolding answer_text day_of
     no_date n f =
         rw e (sym (refused_alike Err refusal_text (date_cases l.year l.month l.day) (Ok (line_day l)) _ n (λ k p. cc) (λ p. impossible (cc)) f))

@@ -30,6 +30,7 @@ use Rattle.run_line.specs.Answer.{room, line_day, day_run_text, line_text, answe
 use Rattle.run_line.specs.Claims.{short_run_cases, short_cases, line_run}
 use Rattle.run_line.proofs.Answers.{bad}
 use Rattle.std.specs.Prelude.{Ok, Err, Option, Some, None}
+use Rattle.instants.specs.declared.refusal.Refusal.{Refusal}
 use Rattle.instants.specs.declared.refusal.Refusal.TheVariants.{RunCount}
 
 -- ---- the refusals
@@ -71,12 +72,12 @@ numeral_writes n h = by_digits n one two
 
 -- PROMISE. The numeral in the text of a line's refusal writes the refusal's number.
 pub refusal_number : (l : Line) → Writes (numeral (first_refusal (short_cases l))) (first_refusal (short_cases l))
-refusal_number l = numeral_writes (first_refusal (short_cases l)) (first_below 100 (short_cases l) (omega arith) tt)
+refusal_number l = numeral_writes (first_refusal (short_cases l)) (omega (arith, first_below (short_cases l)))
 
 -- ---- how much is written
 
 -- a refusal's text is shorter than a day's run
-refusal_short : (n : ℕ) → length (refusal_text n) ≤ 2880
+refusal_short : (n : Refusal) → length (refusal_text n) ≤ 2880
 refusal_short n = omega (arith, refusal_most n)
 
 -- PROMISE. The program writes 2,880 bytes at most.
