@@ -30,7 +30,7 @@ use Rattle.binary64.specs.Reduction.{raised, settled, reduced}
 use Rattle.binary64.specs.Claims.{Finite, InRange}
 use Rattle.binary64.proofs.Bounded.{bound_finite}
 use Rattle.binary64.proofs.Range.{IsPeriod, zero_in_range, reduced_in_range}
-use Rattle.tide.proofs.Sums.{bounds_at, sum_bound, zero_sum}
+use Rattle.tide.proofs.Sums.{bounds_at}
 use Rattle.std.specs.Prelude.{Result, Ok, Err}
 use Rattle.instants.specs.declared.Instant.{Instant}
 use Rattle.tide.specs.declared.Constituent.{Constituent}
@@ -57,7 +57,7 @@ at_instant p k h =
 -- ---- what holds of every answer
 
 -- it holds at every refusal, and of the numbers at every instant for phases with multipliers in range
-module _ (P : Result Constituent Refusal → Type 0) (refused : (n : ℕ) → P (Err n)) (k : Doodson) where
+module _ (P : Result Constituent Refusal → Type 0) (refused : (n : Refusal) → P (Err n)) (k : Doodson) where
   of_answers : ((p : PhaseInstant) → T (all_in_range k) → P (Ok (constituent_of (arguments_at p) k))) → (r : Reading) → P (tide_of r k)
   unfolding tide_of answer_of
   of_answers h r =
@@ -79,14 +79,14 @@ pub phase_in_turn : (r : Reading) (k : Doodson) → InRange turn64 (phase_of (ti
 unfolding constituent_of
 phase_in_turn r k =
     of_answers (λ (x : (Result Constituent Refusal)). InRange turn64 (phase_of x)) (λ n. zero_in_range turn64 turn_is_period) k
-    (λ p _. let a = arguments_at p in reduced_in_range turn64 turn_is_period (sum_of_products k a.d1 a.d2 a.d3 a.d4 a.d5 a.d6)) r
+    (λ p _. let a = arguments_at p in reduced_in_range turn64 turn_is_period (sum_of_products k a.degrees)) r
 
 -- PROMISE. For every input the frequency is finite.
 pub frequency_finite : (r : Reading) (k : Doodson) → Finite (frequency_of (tide_of r k))
 unfolding constituent_of
 frequency_finite r k =
     of_answers (λ (x : (Result Constituent Refusal)). Finite (frequency_of x)) (λ n. tt) k
-    (λ p h. let b = bounds_at p in bound_finite (sum_bound k h b.dd1 b.dd2 b.dd3 b.dd4 b.dd5 b.dd6)) r
+    (λ p h. let b = bounds_at p in bound_finite (b.cycles.most k h)) r
 
 -- ---- six zeros
 zero_reduced : reduced turn64 zero64 ≡ zero64
@@ -101,7 +101,7 @@ zeros_give_zero r h =
     let p = phase_instant_of r h in
     let b = bounds_at p in
     at_instant p (doodson (pos 0) (pos 0) (pos 0) (pos 0) (pos 0) (pos 0)) tt
-    ∙ rw (zero_sum b.dd1 b.dd2 b.dd3 b.dd4 b.dd5 b.dd6, zero_sum b.d1 b.d2 b.d3 b.d4 b.d5 b.d6, zero_reduced) refl
+    ∙ rw (b.cycles.zero, b.degrees.zero, zero_reduced) refl
 
 -- ---- second 60
 

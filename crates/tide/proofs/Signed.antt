@@ -2,16 +2,15 @@
 -- Assumes nothing.
 use mathlib.Core.Path.{◌≡◌}
 use mathlib.Core.Bool.{Bool, true, false, cond, ◌&&◌}
-use Prim.Native.Nat.{ℕ, suc, ◌-◌, ◌≤◌, ◌<◌, ◌^◌}
+use Prim.Native.Nat.{ℕ, suc, ◌-◌, ◌≤◌, ◌<◌}
 use native.Mathlib.Omega.{arith}
 use lib.Dec.{T, ltb, leb, leb→le}
 use lib.IntN.{ℤ, pos, negsuc, nat_abs, ◌-ℤ◌}
-use lib.Signed.{mag}
 use lib.Ieee.Fits.{and_l, and_r}
 use mir.Syntax.{w64}
 use mir.Val.{SFits}
 use mir.Facts.{to_z-of_z}
-use Rattle.algebra.proofs.Bits.{read_back, read_same}
+use Rattle.algebra.proofs.Bits.{read_back}
 use Rattle.instants.specs.Instants.{IsAccepted, day_index}
 use Rattle.instants.proofs.Accepted.{accepted_at}
 use Rattle.instants.specs.Limits.{index_offset, days_covered}
@@ -52,45 +51,24 @@ pub record Each (k : Doodson) : Type 0 where
 pub each : (k : Doodson) → T (all_in_range k) → Each k
 unfolding all_in_range
 each k h =
-    let r2 = in_range k.k1 && in_range k.k2 in
-    let r3 = r2 && in_range k.k3 in
-    let r4 = r3 && in_range k.k4 in
-    let r5 = r4 && in_range k.k5 in
-    let h5 = and_l r5 (in_range k.k6) h in
-    let h4 = and_l r4 (in_range k.k5) h5 in
-    let h3 = and_l r3 (in_range k.k4) h4 in
-    let h2 = and_l r2 (in_range k.k3) h3 in
+    let r6 = in_range k.k6 && true in
+    let r5 = in_range k.k5 && r6 in
+    let r4 = in_range k.k4 && r5 in
+    let r3 = in_range k.k3 && r4 in
+    let r2 = in_range k.k2 && r3 in
+    let h2 = and_r (in_range k.k1) r2 h in
+    let h3 = and_r (in_range k.k2) r3 h2 in
+    let h4 = and_r (in_range k.k3) r4 h3 in
+    let h5 = and_r (in_range k.k4) r5 h4 in
+    let h6 = and_r (in_range k.k5) r6 h5 in
     record {
-      k1 = and_l (in_range k.k1) (in_range k.k2) h2;
-      k2 = and_r (in_range k.k1) (in_range k.k2) h2;
-      k3 = and_r r2 (in_range k.k3) h3;
-      k4 = and_r r3 (in_range k.k4) h4;
-      k5 = and_r r4 (in_range k.k5) h5;
-      k6 = and_r r5 (in_range k.k6) h;
+      k1 = and_l (in_range k.k1) r2 h;
+      k2 = and_l (in_range k.k2) r3 h2;
+      k3 = and_l (in_range k.k3) r4 h3;
+      k4 = and_l (in_range k.k4) r5 h4;
+      k5 = and_l (in_range k.k5) r6 h5;
+      k6 = and_l (in_range k.k6) true h6;
     }
-
--- ---- a field of the six that is read is its bits read back, and so the multiplier; the code is told of each field its bits and that it fits
-pub record EachBack (k : Doodson) : Type 0 where
-  pub k1 : read_back k.k1 ≡ k.k1
-  pub k2 : read_back k.k2 ≡ k.k2
-  pub k3 : read_back k.k3 ≡ k.k3
-  pub k4 : read_back k.k4 ≡ k.k4
-  pub k5 : read_back k.k5 ≡ k.k5
-  pub k6 : read_back k.k6 ≡ k.k6
-
-abbrev Told : Type 0 → ℤ → Type 0
-Told A z = A × (mag z < 2 ^ 63)
-
-pub each_back : {A B C D E F : Type 0} (k : Doodson)
-    → Told A k.k1 × (Told B k.k2 × (Told C k.k3 × (Told D k.k4 × (Told E k.k5 × (Told F k.k6 × Unit {0}))))) → EachBack k
-each_back k t = record {
-  k1 = read_same k.k1 t.0.1;
-  k2 = read_same k.k2 t.1.0.1;
-  k3 = read_same k.k3 t.1.1.0.1;
-  k4 = read_same k.k4 t.1.1.1.0.1;
-  k5 = read_same k.k5 t.1.1.1.1.0.1;
-  k6 = read_same k.k6 t.1.1.1.1.1.0.1;
-}
 
 -- ---- what an exported call asks for is what it was handed
 pub asked_back : {k1 k2 k3 k4 k5 k6 : ℤ} (r : Reading) → SFits w64 k1 → SFits w64 k2 → SFits w64 k3 → SFits w64 k4 → SFits w64 k5 → SFits w64 k6

@@ -3,6 +3,7 @@
 -- 15 million, and a sum of six products with multipliers up to 12 at most 72 times that. Each bound follows from those before by Bounded's laws.
 -- Assumes nothing.
 use mathlib.Core.Path.{◌≡◌, refl}
+use mathlib.Core.List.{List, [], ◌∷◌}
 use Prim.Native.Nat.{ℕ, ◌*◌, ◌≤◌, ◌<◌}
 use native.Mathlib.Nat.{le_of_lt}
 use native.Mathlib.Omega.{arith}
@@ -65,23 +66,36 @@ module _ {t : Float} (h : Bound 7 t) where
   unfolding FD1 FD2 FD3 FD4 FD5 decimal64
   frequencies = (rising (known tt) (known tt), known tt, falling (known tt) (known tt), falling (known tt) (known tt), rising (known tt) (known tt))
 
--- ---- the Doodson arguments: each of the twelve is at most 15 million in size
+-- ---- the sums of six products with numbers of at most 15 million in size
 abbrev pub Limited : Float → Type 0
 Limited x = Bound 15_000_000 x
 
+pub record Summed (xs : List Float) : Type 0 where
+  pub most : (k : Doodson) → T (all_in_range k) → Bound 1_080_000_000 (sum_of_products k xs)
+  pub zero : sum_of_products (doodson (pos 0) (pos 0) (pos 0) (pos 0) (pos 0) (pos 0)) xs ≡ zero64
+
+multiplier : (z : ℤ) → T (in_range z) → Bound 12 (whole z)
+multiplier z h = number 12 z tt (range_size z h)
+
+summed : {x1 x2 x3 x4 x5 x6 : Float} → Limited x1 → Limited x2 → Limited x3 → Limited x4 → Limited x5 → Limited x6 → Summed (x1 ∷ x2 ∷ x3 ∷ x4 ∷ x5 ∷ x6 ∷ [])
+unfolding sum_of_products
+summed x1 x2 x3 x4 x5 x6 = record {
+  most = λ k h.
+      let e : Each k = each k h in
+      added tt (added tt (added tt (added tt (added tt (added tt (known {B = 0} {x = zero64} tt)
+      (multiplied tt (multiplier k.k1 e.k1) x1))
+      (multiplied tt (multiplier k.k2 e.k2) x2))
+      (multiplied tt (multiplier k.k3 e.k3) x3))
+      (multiplied tt (multiplier k.k4 e.k4) x4))
+      (multiplied tt (multiplier k.k5 e.k5) x5))
+      (multiplied tt (multiplier k.k6 e.k6) x6);
+  zero = rw (zero_product x1, zero_product x2, zero_product x3, zero_product x4, zero_product x5, zero_product x6);
+}
+
+-- ---- the Doodson arguments
 pub record Bounds (a : Arguments) : Type 0 where
-  pub d1 : Limited a.d1
-  pub d2 : Limited a.d2
-  pub d3 : Limited a.d3
-  pub d4 : Limited a.d4
-  pub d5 : Limited a.d5
-  pub d6 : Limited a.d6
-  pub dd1 : Limited a.dd1
-  pub dd2 : Limited a.dd2
-  pub dd3 : Limited a.dd3
-  pub dd4 : Limited a.dd4
-  pub dd5 : Limited a.dd5
-  pub dd6 : Limited a.dd6
+  pub degrees : Summed a.degrees
+  pub cycles : Summed a.cycles
 
 bounds_of : (f t : Float) → Bound 2 f → Bound 7 t → Bounds (arguments_of f t)
 unfolding arguments_of
@@ -93,18 +107,22 @@ bounds_of f t hf ht =
     let dd2 = added tt FD.2 FD.4 in
     let dd3 = subtracted tt dd2 FD.3 in
     record {
-      d1 = wide tt (subtracted tt (multiplied tt (number 360 (pos 360) tt (lit≤ tt)) hf) F.3);
-      d2 = wide tt d2;
-      d3 = wide tt d3;
-      d4 = wide tt (subtracted tt d2 F.0);
-      d5 = wide tt (negated F.4);
-      d6 = wide tt (subtracted tt d3 F.1);
-      dd1 = wide tt (subtracted tt (number 1 (pos 1) tt (lit≤ tt)) FD.3);
-      dd2 = wide tt dd2;
-      dd3 = wide tt dd3;
-      dd4 = wide tt (subtracted tt dd2 FD.0);
-      dd5 = wide tt (negated FD.4);
-      dd6 = wide tt (subtracted tt dd3 FD.1);
+      degrees =
+          summed
+          (wide tt (subtracted tt (multiplied tt (number 360 (pos 360) tt (lit≤ tt)) hf) F.3))
+          (wide tt d2)
+          (wide tt d3)
+          (wide tt (subtracted tt d2 F.0))
+          (wide tt (negated F.4))
+          (wide tt (subtracted tt d3 F.1));
+      cycles =
+          summed
+          (wide tt (subtracted tt (number 1 (pos 1) tt (lit≤ tt)) FD.3))
+          (wide tt dd2)
+          (wide tt dd3)
+          (wide tt (subtracted tt dd2 FD.0))
+          (wide tt (negated FD.4))
+          (wide tt (subtracted tt dd3 FD.1));
     }
 
 pub bounds_at : (p : PhaseInstant) → Bounds (arguments_at p)
@@ -115,27 +133,3 @@ bounds_at p =
     let a = (parts_accepted p).2 in
     let h = (accepted_at d m (day_index d) a).less in
     bounds_of _ _ (fraction_bound _ (omega (arith, utc_less p, h))) (centuries_bound _ _ (accepted_size d m a) (fraction_bound _ (omega (arith, utc_less p, h))))
-
--- ---- the sums
-multiplier : (z : ℤ) → T (in_range z) → Bound 12 (whole z)
-multiplier z h = number 12 z tt (range_size z h)
-
-pub sum_bound : (k : Doodson) {x1 x2 x3 x4 x5 x6 : Float} → T (all_in_range k)
-    → Limited x1 → Limited x2 → Limited x3 → Limited x4 → Limited x5 → Limited x6
-    → Bound 1_080_000_000 (sum_of_products k x1 x2 x3 x4 x5 x6)
-unfolding sum_of_products
-sum_bound k h x1 x2 x3 x4 x5 x6 =
-    let e : Each k = each k h in
-    added tt (added tt (added tt (added tt (added tt (added tt (known {B = 0} {x = zero64} tt)
-    (multiplied tt (multiplier k.k1 e.k1) x1))
-    (multiplied tt (multiplier k.k2 e.k2) x2))
-    (multiplied tt (multiplier k.k3 e.k3) x3))
-    (multiplied tt (multiplier k.k4 e.k4) x4))
-    (multiplied tt (multiplier k.k5 e.k5) x5))
-    (multiplied tt (multiplier k.k6 e.k6) x6)
-
-pub zero_sum : {x1 x2 x3 x4 x5 x6 : Float}
-    → Limited x1 → Limited x2 → Limited x3 → Limited x4 → Limited x5 → Limited x6
-    → sum_of_products (doodson (pos 0) (pos 0) (pos 0) (pos 0) (pos 0) (pos 0)) x1 x2 x3 x4 x5 x6 ≡ zero64
-unfolding sum_of_products
-zero_sum h1 h2 h3 h4 h5 h6 = rw (zero_product h1, zero_product h2, zero_product h3, zero_product h4, zero_product h5, zero_product h6)

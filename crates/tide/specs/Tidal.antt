@@ -1,6 +1,7 @@
 -- The rules of docs/RULES.md for the frequency and phase of a tidal constituent, in their order.
 -- Derived from the IERS routine TDFRPH; not IERS Conventions software (NOTICE, docs/DIFFERENCES.md).
-use Rattle.std.specs.Prelude.{ℕ, Bool, not, ◌&&◌, List, [], ◌∷◌, ℤ, pos, neg_ℤ, Float, Result, Ok, Err}
+use Rattle.std.specs.Prelude.{ℕ, Bool, not, ◌&&◌, List, [], ◌∷◌, map, fold, ℤ, pos, neg_ℤ, Float, Result, Ok, Err}
+use Rattle.std.specs.List.{zip, list_all}
 use Rattle.std.specs.Int.Signed.{le_z}
 use Rattle.std.specs.Float.Ieee.{neg}
 use Rattle.instants.specs.Refusals.{Case, case, refused_or, refusal_of}
@@ -39,16 +40,19 @@ arguments_of f t =
     let DD4 = DD2 ⊖ FD1 t in
     let DD5 = neg (FD5 t) in
     let DD6 = DD3 ⊖ FD2 in
-    record { d1 = D1; d2 = D2; d3 = D3; d4 = D4; d5 = D5; d6 = D6; dd1 = DD1; dd2 = DD2; dd3 = DD3; dd4 = DD4; dd5 = DD5; dd6 = DD6 }
+    record { degrees = D1 ∷ D2 ∷ D3 ∷ D4 ∷ D5 ∷ D6 ∷ []; cycles = DD1 ∷ DD2 ∷ DD3 ∷ DD4 ∷ DD5 ∷ DD6 ∷ [] }
 
 -- at an instant for phases: the hour angle is of its UTC part, whose fraction of the day is 1 or a little more in second 60, and the centuries of its TT part
 unfoldable pub arguments_at : PhaseInstant → Arguments
 arguments_at p = arguments_of (day_fraction (reading_micros p.utc)) (centuries p.tt.day (day_fraction p.tt.micros))
 
+-- the six multipliers in their order
+abbrev pub multipliers : Doodson → List ℤ
+multipliers k = k.k1 ∷ k.k2 ∷ k.k3 ∷ k.k4 ∷ k.k5 ∷ k.k6 ∷ []
+
 -- the products with the six multipliers, added in order from +0
-unfoldable pub sum_of_products : Doodson → (x1 x2 x3 x4 x5 x6 : Float) → Float
-sum_of_products k x1 x2 x3 x4 x5 x6 =
-    zero64 ⊕ whole k.k1 ⊗ x1 ⊕ whole k.k2 ⊗ x2 ⊕ whole k.k3 ⊗ x3 ⊕ whole k.k4 ⊗ x4 ⊕ whole k.k5 ⊗ x5 ⊕ whole k.k6 ⊗ x6
+unfoldable pub sum_of_products : Doodson → List Float → Float
+sum_of_products k xs = fold (λ s p. s ⊕ p.0 ⊗ p.1) zero64 (zip (map whole (multipliers k)) xs)
 
 -- 360 degrees
 unfoldable pub turn64 : Float
@@ -57,8 +61,8 @@ turn64 = whole (pos 360)
 -- the frequency, and the phase, reduced by 360
 unfoldable pub constituent_of : Arguments → Doodson → Constituent
 constituent_of a k = record {
-  frequency = sum_of_products k a.dd1 a.dd2 a.dd3 a.dd4 a.dd5 a.dd6;
-  phase = reduced turn64 (sum_of_products k a.d1 a.d2 a.d3 a.d4 a.d5 a.d6);
+  frequency = sum_of_products k a.cycles;
+  phase = reduced turn64 (sum_of_products k a.degrees);
 }
 
 -- a multiplier from -12 to 12
@@ -67,7 +71,7 @@ in_range z = le_z (neg_ℤ (pos 12)) z && le_z z (pos 12)
 
 -- all six are
 unfoldable pub all_in_range : Doodson → Bool
-all_in_range k = ((((in_range k.k1 && in_range k.k2) && in_range k.k3) && in_range k.k4) && in_range k.k5) && in_range k.k6
+all_in_range k = list_all in_range (multipliers k)
 
 -- the refusal of six multipliers
 abbrev pub range_cases : Doodson → List Case

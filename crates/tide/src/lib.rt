@@ -2,18 +2,19 @@
 // Derived from the IERS routine TDFRPH; not IERS Conventions software (NOTICE, docs/DIFFERENCES.md).
 #![tactic(auto)]
 
-ghost use Rattle.std.specs.Prelude.{◌≡◌, ◌*◌, ◌<◌, T};
+ghost use Rattle.std.specs.Prelude.{◌≡◌, ◌*◌, ◌<◌, T, map, fold};
+ghost use Rattle.std.specs.List.{zip};
 ghost use Rattle.std.specs.Float.{binary64};
 ghost use Rattle.std.specs.Float.Ieee.{in_float};
 ghost use Rattle.instants.specs.Limits.{day_micros};
-ghost use Rattle.utc.specs.Readings.{reading};
 ghost use Rattle.utc.specs.PhaseInstants.{PhaseInstant};
 ghost use Rattle.utc.specs.Inner.{parts_of, Together};
-ghost use Rattle.binary64.specs.Words.{◌⊗◌, whole};
+ghost use Rattle.binary64.specs.Words.{◌⊕◌, ◌⊗◌, whole, zero64};
 ghost use Rattle.tide.specs.Delaunay.{horner};
-ghost use Rattle.tide.specs.Tidal.{day_fraction, centuries, arguments_of, arguments_at, sum_of_products, in_range, all_in_range, answer_of, tide_of};
+ghost use Rattle.tide.specs.Tidal.{day_fraction, centuries, arguments_of, arguments_at, sum_of_products, multipliers, in_range, all_in_range, answer_of, tide_of};
 
-use utc::{PhaseAnswer, PhaseParts};
+use instants::Refusal;
+use utc::{PhaseParts, Reading};
 
 // The six multipliers of a constituent.
 #[derive(Clone, Copy)]
@@ -27,34 +28,17 @@ pub struct Doodson {
 }
 
 // The six Doodson arguments in degrees and their frequencies in cycles per day.
-#[derive(Drop)]
+#[derive(Clone, Copy)]
 pub struct Arguments {
-    pub d1: f64,
-    pub d2: f64,
-    pub d3: f64,
-    pub d4: f64,
-    pub d5: f64,
-    pub d6: f64,
-    pub dd1: f64,
-    pub dd2: f64,
-    pub dd3: f64,
-    pub dd4: f64,
-    pub dd5: f64,
-    pub dd6: f64,
+    pub degrees: [f64; 6],
+    pub cycles: [f64; 6],
 }
 
 // A frequency in cycles per day and its phase in degrees.
-#[derive(Drop)]
+#[derive(Clone, Copy)]
 pub struct Constituent {
     pub frequency: f64,
     pub phase: f64,
-}
-
-// Frequency and phase, or the number of a refusal.
-#[derive(Drop)]
-pub enum TideAnswer {
-    Tide(Constituent),
-    NoTide(u32),
 }
 
 // The fraction of a day, from its microseconds: 1 or a little more in second 60.
@@ -133,19 +117,15 @@ fn arguments_of(f: f64, t: f64) -> Arguments
     let d3 = d2 - f4;
     let dd2 = fd3 + fd5;
     let dd3 = dd2 - fd4;
+    let d1 = 360.0 * f - f4;
+    let d4 = d2 - f1;
+    let d6 = d3 - f2;
+    let dd1 = 1.0 - fd4;
+    let dd4 = dd2 - fd1;
+    let dd6 = dd3 - fd2;
     Arguments {
-        d1: 360.0 * f - f4,
-        d2,
-        d3,
-        d4: d2 - f1,
-        d5: -f5,
-        d6: d3 - f2,
-        dd1: 1.0 - fd4,
-        dd2,
-        dd3,
-        dd4: dd2 - fd1,
-        dd5: -fd5,
-        dd6: dd3 - fd2,
+        degrees: [d1, d2, d3, d4, -f5, d6],
+        cycles: [dd1, dd2, dd3, dd4, -fd5, dd6],
     }
 }
 
@@ -154,8 +134,8 @@ fn arguments_at(p: PhaseParts) -> Arguments
     requires { Together p }
     ensures { (a : PhaseInstant) → p ≡ parts_of a → result ≡ arguments_at a }
 {
-    let tt = utc::tt_part(p);
-    let utc_micros = utc::utc_micros(p);
+    let tt = p.tt();
+    let utc_micros = p.utc_micros();
     let day = tt.day;
     let t = julian_centuries(day, day_fraction(tt.micros));
     arguments_of(day_fraction(utc_micros), t)
@@ -165,73 +145,75 @@ fn arguments_at(p: PhaseParts) -> Arguments
 fn in_range(k: i64) -> bool
     ensures { result ≡ in_range k }
 {
-    if -12 <= k { k <= 12 } else { false }
+    -12 <= k && k <= 12
 }
 
-// All six are.
-fn all_in_range(k: Doodson) -> bool
-    ensures { result ≡ all_in_range k }
+// The products of two rows of numbers, added in order from +0.
+fn products_added(k: &[f64], x: &[f64]) -> f64
+    ensures { result ≡ fold (λ s p. s ⊕ p.0 ⊗ p.1) zero64 (zip k.now x.now) }
 {
-    in_range(k.k1)
-        & in_range(k.k2)
-        & in_range(k.k3)
-        & in_range(k.k4)
-        & in_range(k.k5)
-        & in_range(k.k6)
+    k.iter().zip(x).fold(0.0, |sum, (k, x)| sum + *k * *x)
 }
 
-// A multiplier times a number.
-fn product(k: i64, x: f64) -> f64
-    requires { T (in_range k) }
-    ensures { result ≡ whole k ⊗ x }
-{
-    k as f64 * x
+impl Doodson {
+    // The six in their order.
+    fn multipliers(self) -> [i64; 6]
+        ensures { result ≡ multipliers self }
+    {
+        [self.k1, self.k2, self.k3, self.k4, self.k5, self.k6]
+    }
+
+    // All six are in range.
+    #[tactic(auto, unfolding(crate::specs::Tidal::all_in_range))]
+    fn all_in_range(self) -> bool
+        ensures { result ≡ all_in_range self }
+    {
+        self.multipliers().iter().all(|k| in_range(*k))
+    }
+
+    // The six as numbers of binary64.
+    fn factors(self) -> [f64; 6]
+        requires { T (all_in_range self) }
+        ensures { result ≡ map whole (multipliers self) }
+    {
+        [
+            self.k1 as f64,
+            self.k2 as f64,
+            self.k3 as f64,
+            self.k4 as f64,
+            self.k5 as f64,
+            self.k6 as f64,
+        ]
+    }
+
+    // The products with the six, added in order from +0.
+    fn sum_of_products(self, x: [f64; 6]) -> f64
+        requires { T (all_in_range self) }
+        ensures { result ≡ sum_of_products self x }
+    {
+        products_added(&self.factors(), &x)
+    }
 }
 
-// The products with the six multipliers, added in order from +0.
-fn sum_of_products(k: Doodson, x1: f64, x2: f64, x3: f64, x4: f64, x5: f64, x6: f64) -> f64
-    requires { T (all_in_range k) }
-    ensures { result ≡ sum_of_products k x1 x2 x3 x4 x5 x6 }
-{
-    0.0 + product(k.k1, x1)
-        + product(k.k2, x2)
-        + product(k.k3, x3)
-        + product(k.k4, x4)
-        + product(k.k5, x5)
-        + product(k.k6, x6)
-}
-
-// The answer for any multipliers, from arguments at hand.
-fn answer_from(a: Arguments, k: Doodson) -> TideAnswer
-    ensures { result ≡ answer_of a k }
-{
-    if all_in_range(k) {
-        let frequency = sum_of_products(k, a.dd1, a.dd2, a.dd3, a.dd4, a.dd5, a.dd6);
-        let phase = binary64::reduce(
-            sum_of_products(k, a.d1, a.d2, a.d3, a.d4, a.d5, a.d6),
-            360.0,
-        );
-        TideAnswer::Tide(Constituent { frequency, phase })
-    } else {
-        TideAnswer::NoTide(11)
+impl Arguments {
+    // The frequency and phase for any multipliers, or refusal 11.
+    fn constituent(self, k: Doodson) -> Result<Constituent, Refusal>
+        ensures { result ≡ answer_of self k }
+    {
+        if !k.all_in_range() {
+            return Err(Refusal::Multiplier);
+        }
+        Ok(Constituent {
+            frequency: k.sum_of_products(self.cycles),
+            phase: binary64::reduce(k.sum_of_products(self.degrees), 360.0),
+        })
     }
 }
 
 // The frequency and phase of a constituent at a UTC reading, or the first refusal: of the reading, then of the multipliers.
-pub fn tide_of(
-    year: u64,
-    month: u64,
-    day: u64,
-    hour: u64,
-    minute: u64,
-    second: u64,
-    microsecond: u64,
-    k: Doodson,
-) -> TideAnswer
-    ensures { result ≡ tide_of (reading year month day hour minute second microsecond) k }
+pub fn tide_of(r: Reading, k: Doodson) -> Result<Constituent, Refusal>
+    ensures { result ≡ tide_of r k }
 {
-    match utc::phase_parts(year, month, day, hour, minute, second, microsecond) {
-        PhaseAnswer::AtPhase(p) => answer_from(arguments_at(p), k),
-        PhaseAnswer::NoPhase(n) => TideAnswer::NoTide(n),
-    }
+    let p = r.phase_parts()?;
+    arguments_at(p).constituent(k)
 }

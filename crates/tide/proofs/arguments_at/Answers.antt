@@ -34,10 +34,10 @@ sized x t =
     }
 
 pub day_fraction-requires : goal.day_fraction-requires
-day_fraction-requires c = rw c.tt_part-tt.ensures (sized c.args.p c.requires).tt
+day_fraction-requires c = rw c.tt-tt.ensures (sized c.args.p c.requires).tt
 
 pub julian_centuries-t-requires : goal.julian_centuries-t-requires
-julian_centuries-t-requires c = rw (c.tt_part-tt.ensures, (sized c.args.p c.requires).back) (sized c.args.p c.requires).day
+julian_centuries-t-requires c = rw (c.tt-tt.ensures, (sized c.args.p c.requires).back) (sized c.args.p c.requires).day
 
 pub day_fraction-requires-2 : goal.day_fraction-requires-2
 day_fraction-requires-2 c = rw c.utc_micros-utc_micros.ensures (sized c.args.p c.requires).utc
@@ -50,5 +50,5 @@ composed p i u d f t g r ei eu ed ef et eg er a ea = rw (er, eg, et, ef, ed, ei,
 
 pub returns : goal.returns
 returns c =
-    composed _ _ _ _ _ _ _ _ c.tt_part-tt.ensures c.utc_micros-utc_micros.ensures (rw c.tt_part-tt.ensures (sized c.args.p c.requires).back) c.day_fraction.ensures
+    composed _ _ _ _ _ _ _ _ c.tt-tt.ensures c.utc_micros-utc_micros.ensures (rw c.tt-tt.ensures (sized c.args.p c.requires).back) c.day_fraction.ensures
     c.julian_centuries-t.ensures c.day_fraction-2.ensures c.arguments_of.ensures

@@ -1,5 +1,6 @@
 -- `tide::tide_of` meets its contract: both answers are made at the reading's instant for phases, or are its refusal.
-use Rattle.std.proofs.Common.{◌≡◌, ◌∙◌, ap, sym, ℕ}
+use Rattle.std.proofs.Common.{◌≡◌, ◌∙◌, ap, sym}
+use Rattle.std.proofs.lemmas.Result.{err_from_is_err_and}
 use Rattle.instants.proofs.Impossible.{impossible}
 use Rattle.utc.specs.PhaseInstants.{PhaseInstant}
 use Rattle.utc.specs.Inner.{parts_of, phase_answer}
@@ -23,17 +24,20 @@ module _ (r : Reading) (k : Doodson) where
       (λ n e. impossible (cc)) (λ p _ e. ap (λ (a : Arguments). answer_of a k) (h p (cc))) (phase_is r ∙ i)
 
   -- where a refusal is, it is handed on
-  refused : (n : ℕ) → phase_answer r ≡ Err n → Err n ≡ tide_of r k
+  refused : (n : Refusal) → phase_answer r ≡ Err n → Err n ≡ tide_of r k
   unfolding tide_of
   refused n i =
       at_both (λ (y : (Result PhaseParts Refusal)) (z : (Result Constituent Refusal)). y ≡ Err n → Err n ≡ z) Err Err (λ p. Ok (parts_of p)) (λ p. answer_of (arguments_at p) k) r
       (λ m e. ap Err (cc)) (λ p _ e. impossible (cc)) (phase_is r ∙ i)
 
 pub arguments_at-requires : goal.arguments_at-requires
-arguments_at-requires c = answer_together _ _ (sym c.in-AtPhase.ensures)
+arguments_at-requires c = answer_together _ _ (sym c.phase_parts.ensures ∙ c.in_ok-p.was)
 
-pub returns-in-AtPhase : goal.returns-in-AtPhase
-returns-in-AtPhase c = c.answer_from.ensures ∙ answered _ _ _ _ c.arguments_at.ensures (sym c.in-AtPhase.ensures)
+pub returns-in_err-p : goal.returns-in_err-p
+returns-in_err-p c =
+    let p = err_from_is_err_and c.from_residual.result c.from_residual.ensures.1 in
+    let e : c.phase_parts.result ≡ Err c.in_err-p.field-0.0 = c.in_err-p.was in
+    rw (p.1, p.2) (refused _ _ _ (sym c.phase_parts.ensures ∙ e))
 
-pub returns-in-NoPhase : goal.returns-in-NoPhase
-returns-in-NoPhase c = refused _ _ _ (sym c.in-NoPhase.ensures)
+pub returns : goal.returns
+returns c = c.constituent.ensures ∙ answered _ _ _ _ c.arguments_at.ensures (sym c.phase_parts.ensures ∙ c.in_ok-p.was)
