@@ -12,7 +12,7 @@ use Rattle.instants.specs.Refusals.{Case, case, refused_or, check}
 use Rattle.instants.specs.declared.refusal.Refusal.{Refusal}
 use Rattle.instants.proofs.Accepted.{both_false}
 use Rattle.instants.proofs.Impossible.{impossible}
-use Rattle.instants.proofs.FirstRefusal.{NoneApplies, none_both, first_none, refused_append, refused_checked, refused_alike, none_answered, answered_none}
+use Rattle.instants.proofs.FirstRefusal.{NoneApplies, none_both, first_none, passed_none, refused_append, refused_checked, refused_alike, none_answered, answered_none}
 use Rattle.record.specs.declared.Record.{Record}
 use Rattle.files.specs.Files.{file_cases, wrong_length}
 use Rattle.files.specs.Inner.{sound}
@@ -22,7 +22,7 @@ use Rattle.compare.specs.Walk.{walk}
 use Rattle.compare.specs.Compare.{records_of, entries_of, entry_length, list_bytes, compare_cases, compare_of, list_after}
 use Rattle.compare.specs.Inner.{records_from, count_of, files_refusal, Fits}
 use Rattle.compare.proofs.Walks.{walk_few}
-use Rattle.std.specs.Prelude.{Result, Ok, Err, Some, None}
+use Rattle.std.specs.Prelude.{Result, Ok, Err, Some, None, ⊤}
 use Rattle.instants.specs.declared.refusal.Refusal.TheVariants.{BufferShort}
 
 -- ---- two files
@@ -43,6 +43,13 @@ module _ (s t : List ℕ) where
   refused_files r n e =
       sym (ap (λ (cs : List Case). refused_or Err cs (Ok (length (entries_of s t)))) (sym (append_assoc (file_cases s) (file_cases t) (room n)))
       ∙ (refused_append Err (file_cases s ++ file_cases t) (room n) _ ∙ refused_checked Err (file_cases s ++ file_cases t) _ r e))
+
+  -- the second file is tested where the first is one
+  pub first_refuses : (r : Refusal) → check (file_cases s) ≡ Err r → check (file_cases s ++ file_cases t) ≡ Err r
+  first_refuses r e = refused_append Err (file_cases s) (file_cases t) (Ok tt) ∙ refused_checked Err (file_cases s) (check (file_cases t)) r e
+
+  pub second_tested : (u : ⊤) → check (file_cases s) ≡ Ok u → check (file_cases s ++ file_cases t) ≡ check (file_cases t)
+  second_tested u e = refused_append Err (file_cases s) (file_cases t) (Ok tt) ∙ none_answered Err (file_cases s) (check (file_cases t)) (passed_none (file_cases s) u e)
 
   -- a wrong length has a refusal, and so has a file that is not sound
   pub length_refused : (wrong_length (length s) || wrong_length (length t)) ≡ true → files_refusal s t ≡ 0 → ⊥
@@ -118,7 +125,7 @@ module _ (s t : List ℕ) where
   test_refused n r e = refused_alike Err Err (compare_cases s t n) _ _ r (λ m p. cc) (λ p. impossible (cc)) e
 
   module _ (n k : ℕ) (e : compare_of s t n ≡ Ok k) where
-    none : NoneApplies (compare_cases s t n) × (Ok (length (entries_of s t)) ≡ Ok k)
+    none : NoneApplies (compare_cases s t n) × (◌≡◌ {A = Result ℕ Refusal} (Ok (length (entries_of s t))) (Ok k))
     unfolding compare_of
     none = answered_none Err (compare_cases s t n) (Ok (length (entries_of s t))) (Ok k) (λ m p. impossible (cc)) e
 
@@ -140,7 +147,7 @@ module _ (s t : List ℕ) where
         ltb-false n (entry_length * length (entries_of s t)) r.0
 
     pub given_number : length (entries_of s t) ≡ k
-    given_number = let g : Ok (length (entries_of s t)) ≡ Ok k = none.1 in cc
+    given_number = let g : ◌≡◌ {A = Result ℕ Refusal} (Ok (length (entries_of s t))) (Ok k) = none.1 in cc
 
     -- what is asked where the list is written
     pub given_fits : Fits s t (entry_length * k) n

@@ -41,17 +41,6 @@ equal_exchanged a b = by (equal b a) refl
     by true e = ap (λ (z : ℤ). equal a z) (equal_is b a e) ∙ equal_same a
     by false e = not_equal a b (λ p. true≢false (sym (ap (λ (z : ℤ). equal z a) (sym p) ∙ equal_same a) ∙ e))
 
--- by their bits
-pub equal_bits : (a b : ℤ) → SFits w32 a → SFits w32 b → eqb (of_z w32 a) (of_z w32 b) ≡ equal a b
-equal_bits a b f g = by (ℕ_discrete (of_z w32 a) (of_z w32 b))
-  where
-    same : of_z w32 a ≡ of_z w32 b → a ≡ b
-    same e = sym (to_z-of_z f) ∙ (ap (to_z w32) e ∙ to_z-of_z g)
-
-    by : Dec (of_z w32 a ≡ of_z w32 b) → eqb (of_z w32 a) (of_z w32 b) ≡ equal a b
-    by (yes e) = eq-eqb _ _ e ∙ sym (ap (equal a) (sym (same e)) ∙ equal_same a)
-    by (no n) = ne_eqb _ _ n ∙ sym (not_equal a b (λ e. n (ap (of_z w32) e)))
-
 -- ---- differences
 
 -- the magnitude of a difference

@@ -246,7 +246,7 @@ fn count_entries(s: &[u8], t: &[u8]) -> Option<u64>
         entries += p.count(s, t);
         p = p.next::<false>(s, t);
     }
-    if (p.m != END) | (p.n != END) {
+    if p.m != END || p.n != END {
         return None;
     }
     Some(entries)

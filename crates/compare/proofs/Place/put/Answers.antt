@@ -3,7 +3,8 @@ use Rattle.std.proofs.Common.{◌≡◌, ap, ap₂, sym, ◌∙◌, ℕ, ◌<◌
 use Rattle.record.specs.declared.Record.{Record}
 use Rattle.compare.specs.declared.Entry.{Entry}
 use Rattle.compare.specs.declared.Place.{Place}
-use Rattle.compare.specs.Walk.{first_only, second_only, alone, changed, same_numbers}
+use Rattle.compare.specs.declared.Side.TheVariants.{FirstOnly, SecondOnly}
+use Rattle.compare.specs.Walk.{alone, changed, same_numbers}
 use Rattle.compare.specs.Inner.{record_at, here}
 use Rattle.compare.proofs.Entries.{one_room, one_put, none_put}
 use Rattle.compare.proofs.Steps.{first_found, second_found, found_reads, found_day, here_first, here_second, here_same, here_changed}
@@ -11,11 +12,11 @@ use Rattle.compare.proofs.Place.put.Goals as goal
 
 -- the records at a place, as the code read them
 module _ (s t : List ℕ) (p : Place) where
-  first_listed : {r : Record} {e : Entry} → r ≡ record_at s p.first → e ≡ alone first_only r → p.m < p.n → here s t p ≡ e ∷ []
-  first_listed x z h = here_first s t p h ∙ ap (λ (e : Entry). e ∷ []) (sym (z ∙ ap (alone first_only) x))
+  first_listed : {r : Record} {e : Entry} → r ≡ record_at s p.first → e ≡ alone FirstOnly r → p.m < p.n → here s t p ≡ e ∷ []
+  first_listed x z h = here_first s t p h ∙ ap (λ (e : Entry). e ∷ []) (sym (z ∙ ap (alone FirstOnly) x))
 
-  second_listed : {q : Record} {e : Entry} → q ≡ record_at t p.second → e ≡ alone second_only q → p.n < p.m → here s t p ≡ e ∷ []
-  second_listed y z h = here_second s t p h ∙ ap (λ (e : Entry). e ∷ []) (sym (z ∙ ap (alone second_only) y))
+  second_listed : {q : Record} {e : Entry} → q ≡ record_at t p.second → e ≡ alone SecondOnly q → p.n < p.m → here s t p ≡ e ∷ []
+  second_listed y z h = here_second s t p h ∙ ap (λ (e : Entry). e ∷ []) (sym (z ∙ ap (alone SecondOnly) y))
 
   module _ {r q : Record} (x : r ≡ record_at s p.first) (y : q ≡ record_at t p.second) {b : Bool} (d : b ≡ same_numbers r q) where
     same : {a : Bool} → b ≡ a → same_numbers (record_at s p.first) (record_at t p.second) ≡ a
@@ -29,63 +30,63 @@ module _ (s t : List ℕ) (p : Place) where
 pub record_at-requires : goal.record_at-requires
 record_at-requires c = found_reads (first_found c.requires.going (omega arith))
 
-pub put_entry-requires-clause-day : goal.put_entry-requires-clause-day
-put_entry-requires-clause-day c = rw (c.alone.ensures, c.record_at.ensures) (found_day (first_found c.requires.going (omega arith)))
+pub put-requires-clause-day : goal.put-requires-clause-day
+put-requires-clause-day c = rw (c.alone.ensures, c.record_at.ensures) (found_day (first_found c.requires.going (omega arith)))
 
-pub put_entry-requires-clause-room : goal.put_entry-requires-clause-room
-put_entry-requires-clause-room c =
-    let e = first_listed c.args.s.now c.args.t.now c.args.self c.record_at.ensures c.alone.ensures c.if-p.true in
+pub put-requires-clause-room : goal.put-requires-clause-room
+put-requires-clause-room c =
+    let e = first_listed c.args.s.now c.args.t.now c.args.self c.record_at.ensures c.alone.ensures c.if-self.true in
     one_room _ _ e _ c.requires.room
 
-pub returns-then-p-clause-size : goal.returns-then-p-clause-size
-returns-then-p-clause-size c =
-    let e = first_listed c.args.s.now c.args.t.now c.args.self c.record_at.ensures c.alone.ensures c.if-p.true in
-    (one_put _ _ e _ _ _ c.put_entry.ensures.size c.put_entry.ensures.list).0
+pub returns-then-self-clause-size : goal.returns-then-self-clause-size
+returns-then-self-clause-size c =
+    let e = first_listed c.args.s.now c.args.t.now c.args.self c.record_at.ensures c.alone.ensures c.if-self.true in
+    (one_put _ _ e _ _ _ c.put.ensures.size c.put.ensures.list).0
 
 -- ---- in the second only
 
-pub record_at-requires-then-p-2 : goal.record_at-requires-then-p-2
-record_at-requires-then-p-2 c = found_reads (second_found c.requires.going c.if-p.false)
+pub record_at-requires-then-self-2 : goal.record_at-requires-then-self-2
+record_at-requires-then-self-2 c = found_reads (second_found c.requires.going c.if-self.false)
 
-pub put_entry-requires-then-p-2-clause-day : goal.put_entry-requires-then-p-2-clause-day
-put_entry-requires-then-p-2-clause-day c = rw (c.alone-then-p-2.ensures, c.record_at-then-p-2.ensures) (found_day (second_found c.requires.going c.if-p.false))
+pub put-requires-then-self-2-clause-day : goal.put-requires-then-self-2-clause-day
+put-requires-then-self-2-clause-day c = rw (c.alone-then-self-2.ensures, c.record_at-then-self-2.ensures) (found_day (second_found c.requires.going c.if-self.false))
 
-pub put_entry-requires-then-p-2-clause-room : goal.put_entry-requires-then-p-2-clause-room
-put_entry-requires-then-p-2-clause-room c =
-    let e = second_listed c.args.s.now c.args.t.now c.args.self c.record_at-then-p-2.ensures c.alone-then-p-2.ensures c.if-p-2.true in
+pub put-requires-then-self-2-clause-room : goal.put-requires-then-self-2-clause-room
+put-requires-then-self-2-clause-room c =
+    let e = second_listed c.args.s.now c.args.t.now c.args.self c.record_at-then-self-2.ensures c.alone-then-self-2.ensures c.if-self-2.true in
     one_room _ _ e _ c.requires.room
 
-pub returns-then-p-2-clause-size : goal.returns-then-p-2-clause-size
-returns-then-p-2-clause-size c =
-    let e = second_listed c.args.s.now c.args.t.now c.args.self c.record_at-then-p-2.ensures c.alone-then-p-2.ensures c.if-p-2.true in
-    (one_put _ _ e _ _ _ c.put_entry-then-p-2.ensures.size c.put_entry-then-p-2.ensures.list).0
+pub returns-then-self-2-clause-size : goal.returns-then-self-2-clause-size
+returns-then-self-2-clause-size c =
+    let e = second_listed c.args.s.now c.args.t.now c.args.self c.record_at-then-self-2.ensures c.alone-then-self-2.ensures c.if-self-2.true in
+    (one_put _ _ e _ _ _ c.put-then-self-2.ensures.size c.put-then-self-2.ensures.list).0
 
 -- ---- in both
 
 pub record_at-r-requires : goal.record_at-r-requires
-record_at-r-requires c = found_reads (first_found c.requires.going c.if-p-2.false)
+record_at-r-requires c = found_reads (first_found c.requires.going c.if-self-2.false)
 
 pub record_at-q-requires : goal.record_at-q-requires
-record_at-q-requires c = found_reads (second_found c.requires.going c.if-p.false)
+record_at-q-requires c = found_reads (second_found c.requires.going c.if-self.false)
 
 pub returns-then-same_numbers-clause-list : goal.returns-then-same_numbers-clause-list
 returns-then-same_numbers-clause-list c =
     let s = c.args.s.now in
     let t = c.args.t.now in
     let e = same s t c.args.self c.record_at-r.ensures c.record_at-q.ensures c.same_numbers.ensures c.if-same_numbers.true in
-    (none_put _ _ (here_same s t c.args.self c.if-p.false c.if-p-2.false e)).1
+    (none_put _ _ (here_same s t c.args.self c.if-self.false c.if-self-2.false e)).1
 
-pub put_entry-requires-2-clause-day : goal.put_entry-requires-2-clause-day
-put_entry-requires-2-clause-day c = rw (c.changed.ensures, c.record_at-r.ensures) (found_day (first_found c.requires.going c.if-p-2.false))
+pub put-requires-2-clause-day : goal.put-requires-2-clause-day
+put-requires-2-clause-day c = rw (c.changed.ensures, c.record_at-r.ensures) (found_day (first_found c.requires.going c.if-self-2.false))
 
-pub put_entry-requires-2-clause-room : goal.put_entry-requires-2-clause-room
-put_entry-requires-2-clause-room c =
+pub put-requires-2-clause-room : goal.put-requires-2-clause-room
+put-requires-2-clause-room c =
     let listed = changed_listed c.args.s.now c.args.t.now c.args.self c.record_at-r.ensures c.record_at-q.ensures c.same_numbers.ensures in
-    let e = listed c.if-same_numbers.false c.changed.ensures c.if-p.false c.if-p-2.false in
+    let e = listed c.if-same_numbers.false c.changed.ensures c.if-self.false c.if-self-2.false in
     one_room _ _ e _ c.requires.room
 
 pub returns-clause-size : goal.returns-clause-size
 returns-clause-size c =
     let listed = changed_listed c.args.s.now c.args.t.now c.args.self c.record_at-r.ensures c.record_at-q.ensures c.same_numbers.ensures in
-    let e = listed c.if-same_numbers.false c.changed.ensures c.if-p.false c.if-p-2.false in
-    (one_put _ _ e _ _ _ c.put_entry-2.ensures.size c.put_entry-2.ensures.list).0
+    let e = listed c.if-same_numbers.false c.changed.ensures c.if-self.false c.if-self-2.false in
+    (one_put _ _ e _ _ _ c.put-2.ensures.size c.put-2.ensures.list).0
