@@ -108,14 +108,6 @@ all_found false = tt
 
 -- ---- what they say of a month of a year
 
-unfolded : (b : Bool) → cond b 1 0 ≤ 1
-unfolded true = omega arith
-unfolded false = omega arith
-
-pub leap_small : (y : ℕ) → leap_day y ≤ 1
-unfolding leap_day
-leap_small y = unfolded (leap_year y)
-
 pub before_table : (y m : ℕ) → 1 ≤ m → m ≤ 12 → get_or befores (m - 1) 0 + cond (leb m 2) 0 (leap_day y) ≡ days_before y m
 unfolding days_before leap_day starts both
 before_table y zero h k = omega arith

@@ -64,6 +64,7 @@ fn leap(y: u64) -> u64
 }
 
 // The days of the year y.
+#[tactic(auto, using(crate::proofs::Laws::year_length_lem))]
 pub fn year_length(y: u64) -> u64
     ensures days { result ≡ year_length y }
     ensures below { result < 367 }
@@ -72,6 +73,7 @@ pub fn year_length(y: u64) -> u64
 }
 
 // The days of the k years from 1600 on.
+#[tactic(auto, using(crate::proofs::Laws::years_counted))]
 fn years(k: u64) -> u64
     requires { k ≤ 801 }
     ensures days { result ≡ days_of_years k }
@@ -165,6 +167,7 @@ fn year_day(n: u64) -> YearDay
 }
 
 // The date n days after 1600-01-01.
+#[tactic(auto, using(crate::proofs::Groups::date_of_lem))]
 pub fn date_after(n: u64) -> Date
     requires { n < index_limit }
     ensures { result ≡ date_after n }
