@@ -12,7 +12,7 @@ use Rattle.bigendian.proofs.Buffers.{front_none}
 use Rattle.record.specs.Format.{record_length}
 use Rattle.rescue.specs.Walk.{range}
 use Rattle.rescue.specs.declared.Range.{Range}
-use Rattle.rescue.specs.Rescue.{entry_length, records_at, list_bytes}
+use Rattle.rescue.specs.Rescue.{entry_length, entry_bytes, records_at, list_bytes}
 use Rattle.rescue.specs.Inner.{range_to}
 use Rattle.rescue.specs.Claims.{Each}
 
@@ -27,26 +27,15 @@ list_append [] qs = refl
 list_append (r ∷ rs) qs = ap (λ (l : List ℕ). bytes_of 4 r.start ++ (bytes_of 4 r.size ++ l)) (list_append rs qs)
 
 -- a start and a length, put one behind the other
-entry_put : (a b : ℕ) (old one two : List ℕ) → one ≡ take 0 old ++ (bytes_of 4 a ++ drop 4 old) → two ≡ take 4 one ++ (bytes_of 4 b ++ drop 8 one)
-    → two ≡ at_front (list_bytes (range a b ∷ [])) old
+pub entry_put : (a b : ℕ) (old one two : List ℕ) → one ≡ take 0 old ++ (bytes_of 4 a ++ drop 4 old) → two ≡ take 4 one ++ (bytes_of 4 b ++ drop 8 one)
+    → two ≡ at_front (entry_bytes (range a b)) old
 unfolding at_front
 entry_put a b old one two p q =
     q ∙ (ap (λ (l : List ℕ). take 4 l ++ (bytes_of 4 b ++ drop 8 l)) p ∙ ap (λ (l : List ℕ). bytes_of 4 a ++ (bytes_of 4 b ++ l)) (drop-drop 4 4 old))
 
-pub number_put : (a : ℕ) (old one : List ℕ) → 4 ≤ length old → one ≡ take 0 old ++ (bytes_of 4 a ++ drop 4 old) → length one ≡ length old
-number_put a old one h p = ap length p ∙ omega (arith, length-drop 4 old)
-
--- what is put for a range with bytes, and for one without
-module _ (i j : ℕ) (old : List ℕ) where
-  pub range_put : (one two : List ℕ) → i < j → one ≡ take 0 old ++ (bytes_of 4 i ++ drop 4 old) → two ≡ take 4 one ++ (bytes_of 4 (j - i) ++ drop 8 one)
-      → (8 ≡ entry_length * length (range_to i j)) × (two ≡ at_front (list_bytes (range_to i j)) old)
-  range_put one two h p q = rw (lt-ltb i j h) (refl, entry_put i (j - i) old one two p q)
-
-  pub range_none : j ≤ i → (0 ≡ entry_length * length (range_to i j)) × (old ≡ at_front (list_bytes (range_to i j)) old)
-  range_none h = rw (le-ltb i j h) (refl, sym (front_none old))
-
-  pub range_room : i < j → entry_length * length (range_to i j) ≡ entry_length
-  range_room h = rw (lt-ltb i j h) refl
+-- what is put where there is no range
+pub range_none : (i j : ℕ) (old : List ℕ) → j ≤ i → old ≡ at_front (list_bytes (range_to i j)) old
+range_none i j old h = rw (le-ltb i j h) (sym (front_none old))
 
 -- ---- a record
 

@@ -9,7 +9,9 @@ use native.Mathlib.Decide.{ℕ_discrete, dec_lt}
 use lib.ListN.{length, drop, take, length-drop}
 use lib.Seq.{take_all, take_at, drop_at, drop-drop}
 use Rattle.record.specs.Format.{record_length}
-use Rattle.record.specs.Inner.{head_refusal}
+use Rattle.std.specs.Prelude.{Result, Ok, Err, ⊤, is_err}
+use Rattle.instants.specs.declared.refusal.Refusal.{Refusal}
+use Rattle.record.specs.Inner.{head_of}
 use Rattle.record.specs.Records.{read_of, is_record}
 use Rattle.record.proofs.Forms.{head_needed}
 use Rattle.record.proofs.Kept.{read_front}
@@ -65,8 +67,12 @@ module _ (s x rest : List ℕ) (j : ℕ) (e : drop j s ≡ x ++ rest) (h : lengt
   pub chunk_reads : is_record (read_of x) ≡ has_record s j
   chunk_reads = ap is_record (ap read_of (sym (take_at x rest record_length h) ∙ ap (take record_length) (sym e)) ∙ read_front (drop j s))
 
-  pub chunk_headless : (head_refusal x ≡ 0 → ⊥) → has_record s j ≡ false
-  chunk_headless n = sym chunk_reads ∙ head_needed x n
+  pub chunk_headless : is_err (head_of x) ≡ true → has_record s j ≡ false
+  chunk_headless = by (head_of x) refl
+    where
+      by : (a : Result ⊤ Refusal) → head_of x ≡ a → is_err a ≡ true → has_record s j ≡ false
+      by (Ok u) q f = absurd (true≢false (sym f))
+      by (Err r) q f = sym chunk_reads ∙ head_needed x r q
 
   -- and the others are the bytes behind them
   pub chunk_on : rest ≡ drop (j + record_length) s

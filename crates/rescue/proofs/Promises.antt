@@ -13,7 +13,7 @@ use Rattle.bigendian.specs.Buffers.{at_front}
 use Rattle.bigendian.proofs.Numbers.{number_bytes}
 use Rattle.bigendian.proofs.Buffers.{front_is}
 use Rattle.instants.specs.Refusals.{first_refusal}
-use Rattle.instants.proofs.FirstRefusal.{handed_on, none_answered, refused_first, first_none}
+use Rattle.instants.proofs.FirstRefusal.{handed_on, none_answered, refused_first, refused_same, first_none}
 use Rattle.record.specs.Format.{record_length}
 use Rattle.record.specs.Records.{read_of, is_record}
 use Rattle.record.proofs.Kept.{read_front}
@@ -39,7 +39,8 @@ module _ (s : List ℕ) (n m : ℕ) (h : rescue_refusal_of (rescue_of s n m) ≡
   pub rescue_zeroed : (kept_of (rescue_of s n m) ≡ 0) × (ranges_number_of (rescue_of s n m) ≡ 0) × (passed_of (rescue_of s n m) ≡ 0)
   unfolding rescue_of
   rescue_zeroed =
-      let e : rescue_of s n m ≡ Err (first_refusal (rescue_cases s n m)) = refused_first Err (rescue_cases s n m) _ (λ z. h (rescue_refusal s n m ∙ z)) in
+      let f = refused_first Err (rescue_cases s n m) (Ok (counts_of s)) (λ z. h (rescue_refusal s n m ∙ z)) in
+      let e : rescue_of s n m ≡ Err f.it = f.refused in
       (ap kept_of e, ap ranges_number_of e, ap passed_of e)
 
 -- PROMISE. And both buffers are as they were.
@@ -48,7 +49,7 @@ pub rescue_keeps : (s records list : List ℕ) → (rescue_refusal_of (rescue_of
 unfolding records_after list_after
 rescue_keeps s records list h =
     let r : first_refusal (rescue_cases s (length records) (length list)) ≡ 0 → ⊥ = λ z. h (rescue_refusal s (length records) (length list) ∙ z) in
-    (refused_first (λ _. records) (rescue_cases s (length records) (length list)) _ r, refused_first (λ _. list) (rescue_cases s (length records) (length list)) _ r)
+    (refused_same records (rescue_cases s (length records) (length list)) _ r, refused_same list (rescue_cases s (length records) (length list)) _ r)
 
 -- ---- the answer
 
@@ -57,7 +58,7 @@ pub rescue_numbers : (s : List ℕ) (n m : ℕ) → rescue_refusal_of (rescue_of
     → (kept_of (rescue_of s n m) ≡ kept_count s) × (ranges_number_of (rescue_of s n m) ≡ length (ranges_in s)) × (passed_of (rescue_of s n m) ≡ passed_count s)
 unfolding rescue_of
 rescue_numbers s n m z =
-    let e : rescue_of s n m ≡ Ok (counts_of s) = none_answered Err (rescue_cases s n m) _ (first_none (rescue_cases s n m) tt (sym (rescue_refusal s n m) ∙ z)) in
+    let e : rescue_of s n m ≡ Ok (counts_of s) = none_answered Err (rescue_cases s n m) _ (first_none (rescue_cases s n m) (sym (rescue_refusal s n m) ∙ z)) in
     (ap kept_of e, ap ranges_number_of e, ap passed_of e)
 
 -- PROMISE. And the buffers have the kept records and the list at their fronts, and behind them what was there.
@@ -67,7 +68,7 @@ pub rescue_buffers : (s records list : List ℕ) → rescue_refusal_of (rescue_o
 unfolding records_after list_after
 rescue_buffers s records list z =
     let c = rescue_cases s (length records) (length list) in
-    let none = first_none c tt (sym (rescue_refusal s (length records) (length list)) ∙ z) in (
+    let none = first_none c (sym (rescue_refusal s (length records) (length list)) ∙ z) in (
       none_answered (λ _. records) c _ none ∙ front_is (kept_bytes s) records _ (kept_length s),
       none_answered (λ _. list) c _ none ∙ front_is (list_bytes (ranges_in s)) list _ (list_length (ranges_in s)),
     )

@@ -8,6 +8,7 @@ use native.Mathlib.Omega.{arith}
 use native.Mathlib.Nat.{zero-add}
 use lib.Dec.{ltb}
 use lib.ListN.{length, take, drop, length-append}
+use Rattle.std.specs.Int.{from_bool}
 use Rattle.bigendian.specs.Buffers.{at_front}
 use Rattle.bigendian.proofs.Buffers.{front_copy}
 use Rattle.bigendian.proofs.Filling.{Filling, filling_none, filling_sum, filling_room, filling_more, filling_all}
@@ -15,7 +16,7 @@ use Rattle.record.specs.Format.{record_length}
 use Rattle.rescue.specs.Walk.{range, walk_from, ranges_of}
 use Rattle.rescue.specs.declared.Range.{Range}
 use Rattle.rescue.specs.Rescue.{entry_length, kept_count, ranges_in, passed_count, records_at, kept_bytes, list_bytes}
-use Rattle.rescue.specs.Inner.{Hop, Chain, range_to, Fits}
+use Rattle.rescue.specs.Inner.{Hop, Turned, range_to, Fits}
 use Rattle.rescue.proofs.Walks.{walk_ends}
 use Rattle.rescue.proofs.Hops.{record_places, hop_kept, chain_kept, chain_passed, chain_within}
 use Rattle.rescue.proofs.Ranges.{hop_ranges, ranges_few}
@@ -25,17 +26,20 @@ use Rattle.rescue.proofs.Whole.{records_there, places_count}
 
 -- ---- a turn of the loops: a hop from i to j, and a chain from j to e
 
-module _ (s : List ℕ) (i j e : ℕ) (h : Hop s i j) (c : Chain s j e) where
-  turn_kept : (walk_from s i).kept ≡ record_places j c.count ++ (walk_from s e).kept
-  turn_kept = hop_kept s i j h ∙ chain_kept s j e c
+module _ (s : List ℕ) (i j e : ℕ) (t : Turned s i j e) where
+  turn_kept : (walk_from s i).kept ≡ record_places j t.chain.count ++ (walk_from s e).kept
+  turn_kept = hop_kept s i j t.hop ∙ chain_kept s j e t.chain
 
   pub turn_ranges : ranges_of (walk_from s i).passed ≡ range_to i j ++ ranges_of (walk_from s e).passed
-  turn_ranges = hop_ranges s i j h ∙ ap (λ (l : List ℕ). range_to i j ++ ranges_of l) (chain_passed s j e c)
+  turn_ranges = hop_ranges s i j t.hop ∙ ap (λ (l : List ℕ). range_to i j ++ ranges_of l) (chain_passed s j e t.chain)
+
+  pub turn_within : e ≤ length s
+  turn_within = chain_within s j e t.chain t.hop.within
 
 -- ---- counting
 
 -- 1 for a list of one element, 0 for the empty one
-counts_one : {A : Type 0} (b : Bool) (x : A) → length (cond b (x ∷ []) []) ≡ cond b 1 0
+counts_one : {A : Type 0} (b : Bool) (x : A) → length (cond b (x ∷ []) []) ≡ from_bool b
 counts_one true x = refl
 counts_one false x = refl
 
@@ -49,12 +53,12 @@ pub counted_none : (s : List ℕ) → Counted s 0 0 0
 unfolding kept_count ranges_in
 counted_none s = record { records = zero-add _; passed = zero-add _; within = omega arith }
 
-pub counted_more : {s : List ℕ} {i kept ranges : ℕ} (j e r : ℕ) → Counted s i kept ranges → Hop s i j → Chain s j e → r ≡ cond (ltb i j) 1 0
+pub counted_more : {s : List ℕ} {i kept ranges : ℕ} (j e r : ℕ) → Counted s i kept ranges → Turned s i j e → r ≡ from_bool (ltb i j)
     → Counted s e (kept + (e - j)) (ranges + r)
-counted_more {s = s} {i = i} j e r d h c p = record {
-  records = omega (arith, d.records, c.end, ap length (turn_kept s i j e h c), length-append (record_places j c.count) (walk_from s e).kept, places_count c.count j);
-  passed = omega (arith, p, d.passed, ap length (turn_ranges s i j e h c), length-append (range_to i j) (ranges_of (walk_from s e).passed), counts_one {A = Range} (ltb i j) (range i (j - i)));
-  within = chain_within s j e c h.within;
+counted_more {s = s} {i = i} j e r d t p = record {
+  records = omega (arith, d.records, t.chain.end, ap length (turn_kept s i j e t), length-append (record_places j t.chain.count) (walk_from s e).kept, places_count t.chain.count j);
+  passed = omega (arith, p, d.passed, ap length (turn_ranges s i j e t), length-append (range_to i j) (ranges_of (walk_from s e).passed), counts_one {A = Range} (ltb i j) (range i (j - i)));
+  within = turn_within s i j e t;
 }
 
 -- they are few
@@ -105,41 +109,41 @@ module _ {s records₀ list₀ records list : List ℕ} {i kept listed : ℕ} (w
   list_most b e =
       omega (arith, e, filling_sum w.lists, ap length list_hop, length-append (list_bytes (range_to i j)) (list_bytes (ranges_of (walk_from s j).passed)), list_length (range_to i j), list_length (ranges_in s), ranges_few s)
 
-  -- and the records of a chain behind it
-  module _ (e : ℕ) (c : Chain s j e) where
-    -- the bytes that are lent for them
-    abbrev part : List ℕ
-    part = take (e - j) (drop j s)
+-- and the records of the chain behind it
+module _ {s records₀ list₀ records list : List ℕ} {i kept listed j e : ℕ} (w : Written s records₀ list₀ records list i kept listed) (t : Turned s i j e) where
+  -- the bytes that are lent for them
+  abbrev part : List ℕ
+  part = take (e - j) (drop j s)
 
-    part_records : records_at s (record_places j c.count) ≡ part
-    part_records = let q : record_length * c.count ≡ e - j = omega (arith, c.end) in records_there c.count s j ∙ ap (λ (k : ℕ). take k (drop j s)) q
+  part_records : records_at s (record_places j t.chain.count) ≡ part
+  part_records = let q : record_length * t.chain.count ≡ e - j = omega (arith, t.chain.end) in records_there t.chain.count s j ∙ ap (λ (k : ℕ). take k (drop j s)) q
 
-    records_turn : records_at s (walk_from s i).kept ≡ part ++ records_at s (walk_from s e).kept
-    records_turn =
-        ap (records_at s) (turn_kept s i j e h c)
-        ∙ (records_append s (record_places j c.count) (walk_from s e).kept ∙ ap (λ (l : List ℕ). l ++ records_at s (walk_from s e).kept) part_records)
+  records_turn : records_at s (walk_from s i).kept ≡ part ++ records_at s (walk_from s e).kept
+  records_turn =
+      ap (records_at s) (turn_kept s i j e t)
+      ∙ (records_append s (record_places j t.chain.count) (walk_from s e).kept ∙ ap (λ (l : List ℕ). l ++ records_at s (walk_from s e).kept) part_records)
 
-    list_turn : list_bytes (ranges_of (walk_from s i).passed) ≡ list_bytes (range_to i j) ++ list_bytes (ranges_of (walk_from s e).passed)
-    list_turn = ap list_bytes (turn_ranges s i j e h c) ∙ list_append (range_to i j) (ranges_of (walk_from s e).passed)
+  list_turn : list_bytes (ranges_of (walk_from s i).passed) ≡ list_bytes (range_to i j) ++ list_bytes (ranges_of (walk_from s e).passed)
+  list_turn = ap list_bytes (turn_ranges s i j e t) ∙ list_append (range_to i j) (ranges_of (walk_from s e).passed)
 
-    pub records_room_lem : length part ≤ length (take (length records - kept) (drop kept records))
-    records_room_lem = filling_room w.keeps part (records_at s (walk_from s e).kept) records_turn
+  pub records_room_lem : length part ≤ length (take (length records - kept) (drop kept records))
+  records_room_lem = filling_room w.keeps part (records_at s (walk_from s e).kept) records_turn
 
-    pub records_most : kept + length part ≤ length s
-    records_most = omega (arith, filling_sum w.keeps, ap length records_turn, length-append part (records_at s (walk_from s e).kept), kept_length s, kept_few s)
+  pub records_most : kept + length part ≤ length s
+  records_most = omega (arith, filling_sum w.keeps, ap length records_turn, length-append part (records_at s (walk_from s e).kept), kept_length s, kept_few s)
 
-    pub written_more : (a b : ℕ) (xs ys : List ℕ)
-        → a ≡ length part → xs ≡ take (length part) part ++ drop (length part) (take (length records - kept) (drop kept records))
-        → b ≡ entry_length * length (range_to i j) → ys ≡ at_front (list_bytes (range_to i j)) (take (length list - listed) (drop listed list))
-        → Written s records₀ list₀ (take kept records ++ (xs ++ drop (length records - kept) (drop kept records))) (take listed list ++ (ys ++ drop (length list - listed) (drop listed list))) e (kept + a) (listed + b)
-    written_more a b xs ys p x q y =
-        let f : b ≡ length (list_bytes (range_to i j)) = q ∙ sym (list_length (range_to i j)) in
-        rw (p, f)
-        (record {
-          keeps = filling_more w.keeps part _ xs records_turn (x ∙ front_copy part (take (length records - kept) (drop kept records)));
-          lists = filling_more w.lists (list_bytes (range_to i j)) _ ys list_turn y;
-          within = chain_within s j e c h.within;
-        })
+  pub written_more : (a b : ℕ) (xs ys : List ℕ)
+      → a ≡ length part → xs ≡ take (length part) part ++ drop (length part) (take (length records - kept) (drop kept records))
+      → b ≡ entry_length * length (range_to i j) → ys ≡ at_front (list_bytes (range_to i j)) (take (length list - listed) (drop listed list))
+      → Written s records₀ list₀ (take kept records ++ (xs ++ drop (length records - kept) (drop kept records))) (take listed list ++ (ys ++ drop (length list - listed) (drop listed list))) e (kept + a) (listed + b)
+  written_more a b xs ys p x q y =
+      let f : b ≡ length (list_bytes (range_to i j)) = q ∙ sym (list_length (range_to i j)) in
+      rw (p, f)
+      (record {
+        keeps = filling_more w.keeps part _ xs records_turn (x ∙ front_copy part (take (length records - kept) (drop kept records)));
+        lists = filling_more w.lists (list_bytes (range_to i j)) _ ys list_turn y;
+        within = turn_within s i j e t;
+      })
 
 -- at the end
 pub written_all : {s records₀ list₀ records list : List ℕ} {i kept listed : ℕ} → Written s records₀ list₀ records list i kept listed → length s ≤ i

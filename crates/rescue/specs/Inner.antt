@@ -19,6 +19,11 @@ pub record Chain (s : List ℕ) (i j : ℕ) : Type 0 where
   pub reads : (k : ℕ) → k < count → has_record s (i + record_length * k) ≡ true
   pub ended : has_record s j ≡ false
 
+-- a turn of the walk from place i on: the bytes up to j are passed, and records follow each other from there to e
+pub record Turned (s : List ℕ) (i j e : ℕ) : Type 0 where
+  pub hop : Hop s i j
+  pub chain : Chain s j e
+
 -- the range of the places from i to j, without j, if there is one
 abbrev pub range_to : (i j : ℕ) → List Range
 range_to i j = cond (ltb i j) (range i (j - i) ∷ []) []

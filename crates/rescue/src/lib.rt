@@ -8,7 +8,7 @@ ghost use Rattle.bigendian.specs.Buffers.{at_front};
 ghost use Rattle.instants.specs.Refusals.{check};
 ghost use Rattle.rescue.specs.Walk.{range};
 ghost use Rattle.rescue.specs.Rescue.{most_bytes, entry_length, entry_bytes, counts_of, kept_bytes, list_bytes, ranges_in, rescue_cases, rescue_of, records_after, list_after};
-ghost use Rattle.rescue.specs.Inner.{Hop, Chain, range_to, Fits};
+ghost use Rattle.rescue.specs.Inner.{Hop, Chain, Turned, range_to, Fits};
 
 use bigendian::Field;
 use instants::Refusal;
@@ -114,7 +114,7 @@ struct Turns<'a> {
 impl<'a> Iterator for Turns<'a> {
     type Item = Turn;
 
-    ghost next_gives = { λ t r u. (u.s ≡ t.s) × MatchOption r (length t.s.now ≤ t.at) (λ x. (x.at ≡ t.at) × (u.at ≡ x.end) × Hop t.s.now t.at x.from × Chain t.s.now x.from x.end) };
+    ghost next_gives = { λ t r u. (u.s ≡ t.s) × MatchOption r (length t.s.now ≤ t.at) (λ x. (x.at ≡ t.at) × (u.at ≡ x.end) × Turned t.s.now t.at x.from x.end) };
 
     ghost remaining = { λ t. at_most (length t.s.now - t.at) };
 

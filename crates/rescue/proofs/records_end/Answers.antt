@@ -1,6 +1,7 @@
 use Rattle.std.proofs.Common.{◌≡◌, ◌-◌, length, drop, true, sym, ◌∙◌, arith, length-drop, length-append, ap}
 use lib.Seq.{take_all}
 use Rattle.std.specs.Slice.Iter.{chunks_exact_rest}
+use Rattle.std.specs.Prelude.{is_err}
 use Rattle.rescue.specs.Walk.{has_record}
 use Rattle.rescue.proofs.Hops.{linked_none, linked_on, linked_end, none_behind, chunk_reads, chunk_headless, chunk_on}
 use Rattle.rescue.proofs.records_end.Goals as goal
@@ -11,11 +12,11 @@ loop-r-init c =
     let k = c.chunks_exact-r-items.ensures in
     (linked_none c.args.s.now c.args.from c.requires, rw e (k.rest ∙ take_all (length c.args.s.now - c.args.from) (drop c.args.from c.args.s.now) (omega (arith, length-drop c.args.from c.args.s.now))), rw e k.size)
 
-pub returns-then-head-ne0 : goal.returns-then-head-ne0
-returns-then-head-ne0 c =
+pub returns-then-is_err : goal.returns-then-is_err
+returns-then-is_err c =
     let i = c.loop-r.invariant in
     let x = c.in-Some.ensures.steps in
-    linked_end i.0 (chunk_headless c.args.s.now _ _ c.loop-r.at (sym i.1 ∙ x.1.0) (x.1.1 ∙ i.2) (λ q. c.if-head-ne0.true (c.head.ensures ∙ q)))
+    linked_end i.0 (chunk_headless c.args.s.now _ _ c.loop-r.at (sym i.1 ∙ x.1.0) (x.1.1 ∙ i.2) (sym (ap is_err c.head.ensures) ∙ (sym c.is_err.ensures.value ∙ c.if-is_err.true)))
 
 pub returns-then-not-reads_behind : goal.returns-then-not-reads_behind
 returns-then-not-reads_behind c =
