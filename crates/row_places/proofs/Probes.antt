@@ -9,10 +9,13 @@ use lib.Dec.{leb, leb→le, nleb→lt, lit≤}
 use lib.IntN.{ℤ}
 use lib.ListN.{length}
 use borrow.Author.Tests.{le-leb, lt-leb, eq-eqb, ne_eqb}
-use Rattle.instants.specs.Refusals.{first_refusal}
+use Rattle.instants.specs.Refusals.{first_refusal, refused_or, check, number}
+use Rattle.std.specs.Prelude.{Result, Err}
+use Rattle.std.specs.Result.{result_unwrap_or}
+use Rattle.instants.specs.declared.refusal.Refusal.{Refusal}
 use Rattle.instants.specs.Instants.{instant_cases, IsAccepted}
 use Rattle.instants.specs.Moments.{moment_of}
-use Rattle.instants.proofs.FirstRefusal.{in_each, none_answered, refused_first}
+use Rattle.instants.proofs.FirstRefusal.{in_each, handed_on, none_answered, refused_checked, refused_same}
 use Rattle.instants.proofs.Accepted.{answered_too}
 use Rattle.algebra.proofs.Tests.{cond_case}
 use Rattle.rows.specs.declared.Row.{Row}
@@ -26,6 +29,7 @@ use Rattle.row_bytes.proofs.Reading.{table_count}
 use Rattle.row_bytes.proofs.Forms.{accepted_none, table_held}
 use Rattle.row_places.specs.declared.Bracket.{Bracket}
 use Rattle.row_places.specs.Lookup.{bracket, halving, lookup_of, place_in, probes_with, probes_of, probes_rows_of}
+use Rattle.row_places.specs.Inner.{probes_answer, probes_rows_answer}
 use Rattle.row_places.proofs.Halving.{Spans, halving_spans, halving_most}
 
 module _ (rows : List Row) (x : ℕ) where
@@ -97,6 +101,28 @@ module _ (rows : List Row) (x : ℕ) where
   pub probes_most : (p : ℕ) → length rows - 1 ≤ 2 ^ p → (lookup_of rows x).probes ≤ p
   probes_most p l = lookup_case (λ (b : Bracket). b.probes ≤ p) (λ h. zero-le) (λ h k. zero-le) (λ h k. omega (arith, halving_most rows x p (bracket 0 last 0) (omega arith)))
 
+-- ---- the answers
+
+-- of an answer the number, or 0 for a refusal
+pub answer_number : (rows : List Row) (d : ℤ) (m : ℕ) → result_unwrap_or (probes_answer rows d m) 0 ≡ probes_with rows d m
+answer_number rows d m = handed_on Err (λ (r : Result ℕ Refusal). result_unwrap_or r 0) (λ n. refl) (instant_cases d m) _
+
+module _ (s : List ℕ) (d : ℤ) (m : ℕ) where
+  pub rows_answer_number : result_unwrap_or (probes_rows_answer s d m) 0 ≡ probes_rows_of s d m
+  unfolding probes_rows_answer probes_rows_of
+  rows_answer_number =
+      handed_on Err (λ (r : Result ℕ Refusal). result_unwrap_or r 0) (λ n. refl) (bytes_cases s) _
+      ∙ ap (λ (n : ℕ). refused_or (λ _. 0) (bytes_cases s) n) (answer_number (table_in s) d m)
+
+  -- the bytes are refused, or the lookup is among their rows
+  pub rows_refused : (r : Refusal) → check (bytes_cases s) ≡ Err r → Err r ≡ probes_rows_answer s d m
+  unfolding probes_rows_answer
+  rows_refused r e = sym (refused_checked Err (bytes_cases s) _ r e)
+
+  pub rows_looked_up : AcceptedBytes s → probes_answer (table_in s) d m ≡ probes_rows_answer s d m
+  unfolding probes_rows_answer
+  rows_looked_up e = sym (none_answered Err (bytes_cases s) _ (accepted_none s e))
+
 -- ---- at an instant
 
 -- PROMISE. With accepted bytes the probes are those among their rows, at every instant, a refused one too.
@@ -115,11 +141,11 @@ built_in_looked_up = probes_looked_up built_in
 -- PROMISE. Beside a refusal of the offsets' edition they are 0.
 pub probes_refused : (d : ℤ) (m : ℕ) → (first_refusal (instant_cases d m) ≡ 0 → ⊥) → probes_of d m ≡ 0
 unfolding probes_of
-probes_refused d m = refused_first (λ n. 0) (instant_cases d m) _
+probes_refused d m = refused_same 0 (instant_cases d m) _
 
 pub rows_probes_refused : (s : List ℕ) (d : ℤ) (m : ℕ) → (first_refusal (bytes_cases s ++ instant_cases d m) ≡ 0 → ⊥) → probes_rows_of s d m ≡ 0
 unfolding probes_rows_of
-rows_probes_refused s d m = refused_first (λ n. 0) (bytes_cases s ++ instant_cases d m) _
+rows_probes_refused s d m = refused_same 0 (bytes_cases s ++ instant_cases d m) _
 
 -- with the rows of a table never more than the lookup's most
 with_most : (rows : List Row) (p : ℕ) → length rows - 1 ≤ 2 ^ p → (d : ℤ) (m : ℕ) → probes_with rows d m ≤ p
@@ -140,4 +166,4 @@ pub most_eight : (s : List ℕ) (d : ℤ) (m : ℕ) → probes_rows_of s d m ≤
 unfolding probes_rows_of
 most_eight s d m =
     in_each (λ n. 0) (λ (k : ℕ). k ≤ 8) (bytes_cases s) _ (λ n. zero-le) (λ none.
-    with_most (table_in s) 8 (omega (arith, (table_held s (none_answered (λ n. n) (bytes_cases s) 0 none)).most)) d m)
+    with_most (table_in s) 8 (omega (arith, (table_held s (none_answered number (bytes_cases s) 0 none)).most)) d m)

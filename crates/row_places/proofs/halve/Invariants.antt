@@ -8,7 +8,7 @@ use Rattle.row_places.proofs.halve.Given as goal
 abbrev pub invariant-loop-lower : goal.invariant-loop-lower
 invariant-loop-lower l =
     (l.lower ≤ l.upper) × (l.upper ≤ l.last) × (l.probes + (l.upper - l.lower) ≤ l.last)
-    × (halving (table_in l.s) l.x (bracket l.lower l.upper l.probes) ≡ halving (table_in l.s) l.x (bracket 0 l.last 0))
+    × (halving (table_in l.t.bytes.now) l.x (bracket l.lower l.upper l.probes) ≡ halving (table_in l.t.bytes.now) l.x (bracket 0 l.last 0))
 
 abbrev pub decreases-loop-lower : goal.decreases-loop-lower
 decreases-loop-lower l = l.upper - l.lower

@@ -1,25 +1,34 @@
 -- The bytes are refused, or they are accepted and the lookup is among their rows.
-use Rattle.std.proofs.Common.{ℤ, ap, sym, ◌∙◌, arith}
-use Rattle.std.proofs.Math.Facts.{to_z-of_z}
-use Rattle.instants.proofs.FirstRefusal.{refused_first}
-use Rattle.row_bytes.specs.Form.{table_in, bytes_cases, AcceptedBytes}
-use Rattle.row_bytes.specs.Inner.{bytes_refusal}
-use Rattle.row_bytes.proofs.Forms.{lent}
-use Rattle.row_places.specs.Lookup.{probes_with, probes_rows_of}
-use Rattle.row_places.proofs.Probes.{probes_answered}
+use Rattle.std.proofs.Common.{◌≡◌, ℕ, List, Result, Err, ap, ◌∙◌}
+use Rattle.std.specs.Result.{result_unwrap_or}
+use Rattle.std.proofs.lemmas.Result.{err_from_is_err_and}
+use Rattle.instants.specs.declared.refusal.Refusal.{Refusal}
+use Rattle.row_bytes.specs.Form.{table_in}
+use Rattle.row_places.specs.Inner.{probes_answer, probes_rows_answer}
+use Rattle.row_places.proofs.Probes.{rows_refused, rows_looked_up, rows_answer_number}
 use Rattle.row_places.proofs.probes_rows_of.Goals as goal
 
-pub returns-then-refusal-ne0 : goal.returns-then-refusal-ne0
-unfolding probes_rows_of bytes_refusal
-returns-then-refusal-ne0 c = sym (refused_first (λ n. 0) (bytes_cases c.args.s.now) _ (λ q. c.if-refusal-ne0.true (c.refusal.ensures ∙ q)))
+pub returns-in_err-read-clause-answer : goal.returns-in_err-read-clause-answer
+returns-in_err-read-clause-answer c =
+    let p = err_from_is_err_and c.from_residual.result c.from_residual.ensures.1 in
+    p.1 ∙ ap Err p.2 ∙ rows_refused c.args.s.now c.args.at.day c.args.at.micros _ c.in_err-read.ensures.refused
 
-pub probes_with-requires : goal.probes_with-requires
-unfolding bytes_refusal
-probes_with-requires c = lent c.args.s.now (omega (arith, c.refusal.ensures, c.if-refusal-ne0.false))
+pub returns-in_err-read-clause-number : goal.returns-in_err-read-clause-number
+returns-in_err-read-clause-number c =
+    let p = err_from_is_err_and c.from_residual.result c.from_residual.ensures.1 in
+    let e = p.1 ∙ ap Err p.2 ∙ rows_refused c.args.s.now c.args.at.day c.args.at.micros _ c.in_err-read.ensures.refused in
+    ap (λ (r : Result ℕ Refusal). result_unwrap_or r 0) e ∙ rows_answer_number c.args.s.now c.args.at.day c.args.at.micros
 
-pub returns : goal.returns
-unfolding bytes_refusal
-returns c =
-    let right : AcceptedBytes c.args.s.now = omega (arith, c.refusal.ensures, c.if-refusal-ne0.false) in
-    c.probes_with.ensures ∙ ap (λ (d : ℤ). probes_with (table_in c.args.s.now) d c.args.micros) (to_z-of_z c.ranges.day)
-    ∙ sym (probes_answered c.args.s.now right c.args.day c.args.micros)
+pub returns-clause-answer : goal.returns-clause-answer
+returns-clause-answer c =
+    let t = c.in_ok-read.ensures.table in
+    c.probes_with.ensures ∙ ap (λ (s : List ℕ). probes_answer (table_in s) c.args.at.day c.args.at.micros) t.0
+    ∙ rows_looked_up c.args.s.now c.args.at.day c.args.at.micros t.1
+
+pub returns-clause-number : goal.returns-clause-number
+returns-clause-number c =
+    let t = c.in_ok-read.ensures.table in
+    let e : c.probes_with.result ≡ probes_rows_answer c.args.s.now c.args.at.day c.args.at.micros =
+    c.probes_with.ensures ∙ ap (λ (s : List ℕ). probes_answer (table_in s) c.args.at.day c.args.at.micros) t.0
+    ∙ rows_looked_up c.args.s.now c.args.at.day c.args.at.micros t.1 in
+    ap (λ (r : Result ℕ Refusal). result_unwrap_or r 0) e ∙ rows_answer_number c.args.s.now c.args.at.day c.args.at.micros
