@@ -4,7 +4,7 @@ use Rattle.std.proofs.Common.{◌≡◌, ℕ, ◌+◌, ◌≤◌, List, length, 
 use native.Mathlib.Decide.{dec_le}
 use Rattle.bigendian.proofs.Numbers.{number_take, sum_take}
 use Rattle.bigendian.proofs.Buffers.{Keeps, kept, front_keeps}
-use Rattle.instants.proofs.FirstRefusal.{none_both, in_each, refused_first}
+use Rattle.instants.proofs.FirstRefusal.{none_both, in_each, refused_same}
 use Rattle.instants.specs.Instants.{instant_cases}
 use Rattle.clock.specs.Words.{time_word, words}
 use Rattle.bigendian.specs.declared.Field.{Field}
@@ -16,7 +16,7 @@ use Rattle.record.proofs.Written.{record_length_lem}
 -- A refused write leaves every byte of the buffer as it was.
 pub refused_unchanged : (d : ℤ) (m : ℕ) (ut1 lod rate : ℤ) (old : List ℕ) → (write_refusal d m (length old) ≡ 0 → ⊥) → written d m ut1 lod rate old ≡ old
 unfolding write_refusal written
-refused_unchanged d m ut1 lod rate old h = refused_first (λ _. old) (write_cases d m (length old)) _ h
+refused_unchanged d m ut1 lod rate old h = refused_same old (write_cases d m (length old)) _ h
 
 -- PROMISE. Writing keeps every byte past byte 29, and the buffer stays as long as it is.
 pub write_keeps : (d : ℤ) (m : ℕ) (ut1 lod rate : ℤ) (old : List ℕ) → Keeps record_length old (written d m ut1 lod rate old)

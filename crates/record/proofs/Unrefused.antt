@@ -1,10 +1,9 @@
--- Bytes that read as a record, with no test left: they are long enough, the record is that of their fields, its instant is accepted, and its numbers fit four bytes. No refusal of
--- reading has the number 0. Assumes nothing.
-use Rattle.std.proofs.Common.{◌≡◌, ℕ, ◌-◌, ◌/◌, ◌%◌, ◌^◌, ◌≤◌, Bool, true, false, cond, ltb, List, length, pos, negsuc, sym, refl, ap, ◌∙◌, true≢false, arith, w32, SFits, ltb-false, ltb-true}
-use Rattle.instants.specs.Refusals.{first_refusal}
+-- Bytes that read as a record, with no test left: they are long enough, the record is that of their fields, its instant is accepted, and its numbers fit four bytes.
+-- Assumes nothing.
+use Rattle.std.proofs.Common.{◌≡◌, ℕ, ◌-◌, ◌/◌, ◌%◌, ◌^◌, ◌≤◌, Bool, true, false, cond, ltb, List, length, pos, negsuc, sym, refl, ◌∙◌, true≢false, arith, w32, SFits, ltb-false, ltb-true}
 use Rattle.instants.specs.Instants.{instant, IsAccepted}
 use Rattle.instants.proofs.Impossible.{impossible}
-use Rattle.instants.proofs.FirstRefusal.{handed_on, none_answered, first_none}
+use Rattle.instants.proofs.FirstRefusal.{answered_none}
 use Rattle.instants.proofs.Accepted.{accepted}
 use Rattle.clock.specs.Words.{mark_unit}
 use Rattle.clock.proofs.Words.{was_split, split_accepted, join_then_split}
@@ -12,7 +11,7 @@ use Rattle.bigendian.specs.Numbers.{signed_of}
 use Rattle.bigendian.specs.Fields.{field_at}
 use Rattle.record.specs.declared.Record.{Record}
 use Rattle.record.specs.Format.{record_length, day_field, time_field, ut1_field, lod_field, rate_field}
-use Rattle.record.specs.Records.{read_cases, record_of, read_of, is_record, read_refusal_of}
+use Rattle.record.specs.Records.{read_cases, record_of, read_of, is_record}
 use Rattle.record.proofs.Forms.{WasRead, was_read}
 use Rattle.record.proofs.Written.{day_fits}
 use Rattle.std.specs.Prelude.{Result, Ok, Err}
@@ -27,22 +26,13 @@ pub is_record_lem : (a : (Result Record Refusal)) → is_record a ≡ true → (
 is_record_lem (Ok r) e = (r, refl)
 is_record_lem (Err n) e = absurd (true≢false (sym e))
 
-module _ (s : List ℕ) where
-  refusal : read_refusal_of (read_of s) ≡ first_refusal (read_cases s)
-  unfolding read_of
-  refusal = handed_on Err read_refusal_of (λ n. refl) (read_cases s) _
-
-  -- without a refusal it is the record of its fields
-  unrefused : read_refusal_of (read_of s) ≡ 0 → read_of s ≡ Ok (record_there s)
-  unfolding read_of
-  unrefused e = none_answered Err (read_cases s) _ (first_none (read_cases s) tt (sym refusal ∙ e))
-
-  -- no refusal has the number 0
-  pub refusal_numbered : (n : ℕ) → read_of s ≡ Err n → n ≡ 0 → ⊥
-  refusal_numbered n p e = let q : read_of s ≡ Ok (record_there s) = unrefused (ap read_refusal_of p ∙ e) in impossible (cc)
-
-  pub known_record : is_record (read_of s) ≡ true → read_of s ≡ Ok (record_there s)
-  known_record e = unrefused (ap read_refusal_of (is_record_lem (read_of s) e).1)
+-- what reads is the record of its fields
+pub known_record : (s : List ℕ) → is_record (read_of s) ≡ true → read_of s ≡ Ok (record_there s)
+unfolding read_of
+known_record s e =
+    let q = is_record_lem (read_of s) e in
+    let a = answered_none Err (read_cases s) (Ok (record_there s)) (Ok q.0) (λ n p. impossible (cc)) q.1 in
+    q.1 ∙ sym a.1
 
 -- what two's complement in four bytes gives fits them
 signed_fits : (n : ℕ) → SFits w32 (signed_of 4 n)

@@ -1,9 +1,8 @@
 -- What writing gives, return by return of the code: the instant is refused, the buffer is short, or the record stands at its front.
 -- Assumes nothing.
-use Rattle.std.proofs.Common.{◌≡◌, ℕ, suc, ◌-◌, ◌^◌, ◌<◌, ◌≤◌, Bool, true, false, cond, ltb, List, ◌++◌, length, take, drop, ℤ, pos, negsuc, ◌-ℤ◌, sym, refl, ap, ◌∙◌, arith, take_all, w32, SFits, le-ltb, lt-ltb}
+use Rattle.std.proofs.Common.{◌≡◌, ℕ, suc, ◌-◌, ◌^◌, ◌<◌, ◌≤◌, Bool, true, false, cond, ltb, List, length, ℤ, pos, negsuc, ◌-ℤ◌, sym, refl, ap, ◌∙◌, arith, w32, SFits, le-ltb, lt-ltb}
 use Rattle.bigendian.specs.Buffers.{at_front}
-use Rattle.bigendian.proofs.Buffers.{front_copy}
-use Rattle.instants.specs.Refusals.{refused_or}
+use Rattle.instants.specs.Refusals.{refused_or, check}
 use Rattle.instants.specs.Instants.{day_index, instant_cases, IsAccepted}
 use Rattle.instants.proofs.Impossible.{impossible}
 use Rattle.instants.proofs.FirstRefusal.{refused_alike}
@@ -13,8 +12,10 @@ use Rattle.clock.specs.Words.{time_word, words, split_of}
 use Rattle.clock.proofs.Words.{WasSplit, was_split}
 use Rattle.record.specs.Format.{record_length, record_bytes}
 use Rattle.instants.specs.Limits.{index_offset}
-use Rattle.record.specs.Records.{write_refusal, written}
+use Rattle.record.specs.Records.{write_cases, written}
 use Rattle.std.specs.Prelude.{Ok, Err}
+use Rattle.instants.specs.declared.refusal.Refusal.{Refusal}
+use Rattle.instants.specs.declared.refusal.Refusal.TheVariants.{BufferShort}
 
 pub record_length_lem : (w : ClockWords) (ut1 lod rate : ℤ) → length (record_bytes w ut1 lod rate) ≡ record_length
 unfolding record_bytes
@@ -28,30 +29,24 @@ written_is d m ut1 lod rate old a h = let k = accepted_at d m _ a in simp (k.ins
 -- ---- the code's returns
 
 module _ (d : ℤ) (m : ℕ) (ut1 lod rate : ℤ) (old : List ℕ) where
-  pub refused : (n : ℕ) → split_of d m ≡ Err n → (n ≡ write_refusal d m (length old)) × (old ≡ written d m ut1 lod rate old)
-  unfolding split_of write_refusal written
-  refused n e = (by (λ k. k) _, by (λ _. old) _)
+  pub refused : (n : Refusal) → split_of d m ≡ Err n → (Err n ≡ check (write_cases d m (length old))) × (old ≡ written d m ut1 lod rate old)
+  unfolding split_of written
+  refused n e = (by Err _, by (λ _. old) _)
     where
-      by : {A : Type 0} (refuse : ℕ → A) (a : A) → refuse n ≡ refused_or refuse (instant_cases d m) a
+      by : {A : Type 0} (refuse : Refusal → A) (a : A) → refuse n ≡ refused_or refuse (instant_cases d m) a
       by refuse a = sym (refused_alike Err refuse (instant_cases d m) _ a n (λ k p. cc) (λ p. impossible (cc)) e)
 
-  pub short : (w : ClockWords) → split_of d m ≡ Ok w → length old < record_length → (12 ≡ write_refusal d m (length old)) × (old ≡ written d m ut1 lod rate old)
-  unfolding write_refusal written
+  pub short : (w : ClockWords) → split_of d m ≡ Ok w → length old < record_length → (Err BufferShort ≡ check (write_cases d m (length old))) × (old ≡ written d m ut1 lod rate old)
+  unfolding written
   short w e h = let k = (was_split d m w e).accepted in simp (k.inside, k.within, lt-ltb (length old) record_length h) (refl, refl)
 
   -- all of l, which is the record, is copied over the front of the buffer
   pub done : (w : ClockWords) (l : List ℕ) → split_of d m ≡ Ok w → record_length ≤ length old → l ≡ record_bytes w ut1 lod rate
-      → (0 ≡ write_refusal d m (length old)) × (take (length (take record_length l)) (take record_length l) ++ drop (length (take record_length l)) old ≡ written d m ut1 lod rate old)
-  unfolding write_refusal written
+      → (Ok tt ≡ check (write_cases d m (length old))) × (at_front l old ≡ written d m ut1 lod rate old)
+  unfolding written
   done w l e h q =
       let k = was_split d m w e in
-      let t : take record_length l ≡ l = take_all record_length l (omega (arith, ap length q, record_length_lem w ut1 lod rate)) in
-      let f = front_copy (take record_length l) old ∙ ap (λ (b : List ℕ). at_front b old) (t ∙ (q ∙ ap (λ (x : ClockWords). record_bytes x ut1 lod rate) k.is)) in
-      simp (k.accepted.inside, k.accepted.within, le-ltb (length old) record_length h) (refl, f)
-
-pub thirty : (w : ClockWords) (ut1 lod rate : ℤ) (l : List ℕ) → l ≡ record_bytes w ut1 lod rate → length (take record_length l) ≡ record_length
-unfolding record_bytes
-thirty w ut1 lod rate l q = ap (λ (k : List ℕ). length (take record_length k)) q
+      simp (k.accepted.inside, k.accepted.within, le-ltb (length old) record_length h) (refl, ap (λ (b : List ℕ). at_front b old) (q ∙ ap (λ (x : ClockWords). record_bytes x ut1 lod rate) k.is))
 
 -- the day number of an index below 2^31, -index_offset or later, fits 32 bits
 day_word : (i : ℕ) → i < 2 ^ 31 → SFits w32 (pos i -ℤ pos index_offset)

@@ -115,6 +115,7 @@ impl Record {
 }
 
 // Refuses the bytes of which the head is no record's.
+#[tactic(auto, unfolding(crate::specs::Inner::head_of))]
 pub fn head(s: &[u8]) -> Result<(), Refusal>
     ensures { result ≡ head_of s.now }
 {
@@ -134,6 +135,7 @@ pub fn head(s: &[u8]) -> Result<(), Refusal>
 }
 
 // Refuses the bytes that have not a record's form.
+#[tactic(auto, using(crate::proofs::Forms::head_refused, crate::proofs::Forms::head_long, crate::proofs::Forms::sum_refused, crate::proofs::Forms::form_accepted))]
 fn form(s: &[u8]) -> Result<(), Refusal>
     ensures { result ≡ form_of s.now }
 {
@@ -199,9 +201,7 @@ pub fn known(s: &[u8]) -> Record
     requires { is_record (read_of s.now) ≡ true }
     ensures { Ok result ≡ read_of s.now }
 {
-    let t = Instant {
-        day: DAY_FIELD.read(s) as i64,
-        micros: TIME_FIELD.read(s) % MARK_UNIT,
-    };
-    record_of(t, s)
+    let day = DAY_FIELD.read(s) as i64;
+    let micros = TIME_FIELD.read(s) % MARK_UNIT;
+    record_of(Instant { day, micros }, s)
 }

@@ -6,14 +6,14 @@ use Rattle.record.proofs.Unrefused.{is_record_lem, known_record, read_long}
 use Rattle.record.proofs.known.Goals as goal
 use Rattle.std.specs.Prelude.{Ok}
 
-pub field_at-requires-clause-within : goal.field_at-requires-clause-within
-field_at-requires-clause-within c =
+pub read-day-requires-clause-within : goal.read-day-requires-clause-within
+read-day-requires-clause-within c =
     let r = is_record_lem _ c.requires in
     let l : record_length ≤ length c.args.s.now = read_long c.args.s.now r.0 r.1 in
     omega arith
 
-pub field_at-requires-2-clause-within : goal.field_at-requires-2-clause-within
-field_at-requires-2-clause-within c =
+pub read-micros-requires-clause-within : goal.read-micros-requires-clause-within
+read-micros-requires-clause-within c =
     let r = is_record_lem _ c.requires in
     let l : record_length ≤ length c.args.s.now = read_long c.args.s.now r.0 r.1 in
     omega arith
@@ -23,5 +23,5 @@ record_of-requires c = let r = is_record_lem _ c.requires in read_long c.args.s.
 
 pub returns : goal.returns
 returns c =
-    let l : c.field_at.result < 2 ^ 63 = omega (arith, c.field_at.ensures.below) in
-    ap Ok (c.record_of.ensures ∙ rw (to_z_pos w64 l) (simp (c.field_at.ensures.number, c.field_at-2.ensures.number))) ∙ sym (known_record _ c.requires)
+    let l : c.read-day.result < 2 ^ 63 = omega (arith, c.read-day.ensures.below) in
+    ap Ok (c.record_of.ensures ∙ rw (to_z_pos w64 l) (simp (c.read-day.ensures.number, c.read-micros.ensures.number))) ∙ sym (known_record _ c.requires)
