@@ -93,29 +93,30 @@ module _ (s t : List ℕ) where
 
   -- ---- the code's count
 
-  -- entries that were counted in files of the right lengths
-  module _ (k : ℕ) (w : (wrong_length (length s) || wrong_length (length t)) ≡ false) (e : count_of s t ≡ Some k) where
-    counted : ((sound s ≡ true) × (sound t ≡ true)) × (k ≡ length (walk (records_from s 0) (records_from t 0)))
-    unfolding count_of
-    counted = by (sound s) (sound t) e
-      where
-        by : (x y : Bool) → cond (x && y) (Some (length (walk (records_from s 0) (records_from t 0)))) None ≡ Some k
-            → ((x ≡ true) × (y ≡ true)) × (k ≡ length (walk (records_from s 0) (records_from t 0)))
-        by true true e = ((refl, refl), cc)
-        by true false e = impossible (cc)
-        by false y e = impossible (cc)
+  -- entries that were counted in files of the right lengths: neither is refused, and they are all
+  pub record Counted (k : ℕ) : Type 0 where
+    pub first : NoneApplies (file_cases s)
+    pub second : NoneApplies (file_cases t)
+    pub is : k ≡ length (walk (records_from s 0) (records_from t 0))
+    pub few : k ≤ 4368
 
-    lengths : (wrong_length (length s) ≡ false) × (wrong_length (length t) ≡ false)
-    lengths = both_false (wrong_length (length s)) (wrong_length (length t)) w
+  pub counted : (k : ℕ) → (wrong_length (length s) || wrong_length (length t)) ≡ false → count_of s t ≡ Some k → Counted k
+  unfolding count_of
+  counted k w e = by (sound s) refl (sound t) refl e
+    where
+      lengths : (wrong_length (length s) ≡ false) × (wrong_length (length t) ≡ false)
+      lengths = both_false (wrong_length (length s)) (wrong_length (length t)) w
 
-    pub counted_first : NoneApplies (file_cases s)
-    counted_first = none_applies s lengths.0 counted.0.0
+      all : sound s ≡ true → sound t ≡ true → k ≡ length (walk (records_from s 0) (records_from t 0)) → Counted k
+      all p q i =
+          let a = none_applies s lengths.0 p in
+          let b = none_applies t lengths.1 q in
+          record { first = a; second = b; is = i; few = omega (arith, i, entries_few a b) }
 
-    pub counted_second : NoneApplies (file_cases t)
-    counted_second = none_applies t lengths.1 counted.0.1
-
-    pub counted_is : k ≡ length (walk (records_from s 0) (records_from t 0))
-    counted_is = counted.1
+      by : (x : Bool) → sound s ≡ x → (y : Bool) → sound t ≡ y → cond (x && y) (Some (length (walk (records_from s 0) (records_from t 0)))) None ≡ Some k → Counted k
+      by true p true q e = all p q (cc)
+      by true p false q e = impossible (cc)
+      by false p y q e = impossible (cc)
 
   -- ---- an answer that was given
 
@@ -146,8 +147,11 @@ module _ (s t : List ℕ) where
         let r = (none_both (file_cases t) (case BufferShort (ltb n (entry_length * length (entries_of s t))) ∷ []) rest.1).1 in
         ltb-false n (entry_length * length (entries_of s t)) r.0
 
-    pub given_number : length (entries_of s t) ≡ k
+    given_number : length (entries_of s t) ≡ k
     given_number = let g : ◌≡◌ {A = Result ℕ Refusal} (Ok (length (entries_of s t))) (Ok k) = none.1 in cc
+
+    pub given_few : k ≤ 4368
+    given_few = omega (arith, given_number, ap length (entries_are given_first given_second), entries_few given_first given_second)
 
     -- what is asked where the list is written
     pub given_fits : Fits s t (entry_length * k) n

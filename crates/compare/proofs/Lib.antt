@@ -1,5 +1,5 @@
 -- Numbers: equal numbers and differences, for same_numbers and difference. Walks: a walk, one step on, and the induction over its steps. Steps: where a walk
--- stands and goes on to, for start, next, count_here and count_entries. Entries: the bytes of entries, for entry_bytes and put_here. Writing: the list entry by
+-- stands and goes on to, for start, next, count_here and count. Entries: the bytes of entries, for bytes and put_here. Writing: the list entry by
 -- entry, for fill. Answers: the answer, case by case, for compare_of and compare. AtInstants: what is listed at an instant. Exchanges: files exchanged, and
 -- files with the same records. Rises: the order of entries. ReadsBack: entries from their bytes. Promises: what is promised. Examples: two files, computed.
 pub mod Numbers

@@ -148,19 +148,6 @@ struct Place {
 }
 
 impl Place {
-    // The fronts of both files.
-    fn start<const KNOWN: bool>(s: &[u8], t: &[u8]) -> Place
-        requires { KNOWN ≡ true → (sound s.now ≡ true) × (sound t.now ≡ true) }
-        ensures { result ≡ start_of s.now t.now }
-    {
-        Place {
-            first: 0,
-            second: 0,
-            m: files::moment_at::<KNOWN>(s, 0, 0),
-            n: files::moment_at::<KNOWN>(t, 0, 0),
-        }
-    }
-
     // Behind the record of the first file.
     fn past_first<const KNOWN: bool>(self, s: &[u8]) -> Place
         requires place { self.first + record_length ≤ length s.now }
@@ -188,113 +175,136 @@ impl Place {
             ..self
         }
     }
+}
+
+// Two files. Where both are known to be sound (`KNOWN`), a walk tests none of their records.
+#[derive(Clone, Copy)]
+struct Pair<'a> {
+    s: &'a [u8],
+    t: &'a [u8],
+}
+
+impl Pair<'_> {
+    // The fronts of both.
+    fn start<const KNOWN: bool>(self) -> Place
+        requires { KNOWN ≡ true → (sound self.s.now ≡ true) × (sound self.t.now ≡ true) }
+        ensures { result ≡ start_of self.entry.s.now self.entry.t.now }
+    {
+        Place {
+            first: 0,
+            second: 0,
+            m: files::moment_at::<KNOWN>(self.s, 0, 0),
+            n: files::moment_at::<KNOWN>(self.t, 0, 0),
+        }
+    }
 
     // Behind the earlier of two records, or behind both.
-    fn next<const KNOWN: bool>(self, s: &[u8], t: &[u8]) -> Place
-        requires { Going s.now t.now self KNOWN }
-        ensures { result ≡ next_place s.now t.now self }
+    fn next<const KNOWN: bool>(self, p: Place) -> Place
+        requires { Going self.s.now self.t.now p KNOWN }
+        ensures { result ≡ next_place self.entry.s.now self.entry.t.now p }
     {
-        if self.m < self.n {
-            return self.past_first::<KNOWN>(s);
+        if p.m < p.n {
+            return p.past_first::<KNOWN>(self.s);
         }
-        if self.n < self.m {
-            return self.past_second::<KNOWN>(t);
+        if p.n < p.m {
+            return p.past_second::<KNOWN>(self.t);
         }
-        self.past_first::<KNOWN>(s).past_second::<KNOWN>(t)
+        p.past_first::<KNOWN>(self.s).past_second::<KNOWN>(self.t)
     }
 
-    // How many entries are listed here: one or none. No record is read where the moments differ.
-    fn count(self, s: &[u8], t: &[u8]) -> u64
-        requires { Going s.now t.now self false }
-        ensures { result ≡ length (here s.now t.now self) }
+    // How many entries are listed at a place: one or none. No record is read where the moments differ.
+    fn count_here(self, p: Place) -> u64
+        requires { Going self.s.now self.t.now p false }
+        ensures { result ≡ length (here self.entry.s.now self.entry.t.now p) }
     {
-        if self.m != self.n {
+        if p.m != p.n {
             return 1;
         }
-        u64::from(!same_numbers(record_at(s, self.first), record_at(t, self.second)))
+        u64::from(!same_numbers(record_at(self.s, p.first), record_at(self.t, p.second)))
     }
 
-    // Puts what is listed here at the front of the list, and returns how many bytes it has.
-    fn put(self, s: &[u8], t: &[u8], list: &mut [u8]) -> usize
-        requires going { Going s.now t.now self true }
-        requires room { length (compared.list_bytes (here s.now t.now self)) ≤ length list.old }
-        ensures size { result ≡ length (compared.list_bytes (here s.now t.now self)) }
-        ensures list { list.new ≡ at_front (compared.list_bytes (here s.now t.now self)) list.old }
+    // Puts what is listed at a place at the front of the list, and returns how many bytes it has.
+    fn put_here(self, p: Place, list: &mut [u8]) -> usize
+        requires going { Going self.s.now self.t.now p true }
+        requires room { length (compared.list_bytes (here self.s.now self.t.now p)) ≤ length list.old }
+        ensures size { result ≡ length (compared.list_bytes (here self.entry.s.now self.entry.t.now p)) }
+        ensures list { list.new ≡ at_front (compared.list_bytes (here self.entry.s.now self.entry.t.now p)) list.old }
     {
-        if self.m < self.n {
-            return Entry::alone(Side::FirstOnly, record_at(s, self.first)).put(list);
+        if p.m < p.n {
+            return Entry::alone(Side::FirstOnly, record_at(self.s, p.first)).put(list);
         }
-        if self.n < self.m {
-            return Entry::alone(Side::SecondOnly, record_at(t, self.second)).put(list);
+        if p.n < p.m {
+            return Entry::alone(Side::SecondOnly, record_at(self.t, p.second)).put(list);
         }
-        let r = record_at(s, self.first);
-        let q = record_at(t, self.second);
+        let r = record_at(self.s, p.first);
+        let q = record_at(self.t, p.second);
         if same_numbers(r, q) {
             return 0;
         }
         Entry::changed(r, q).put(list)
     }
-}
 
-// The number of entries of two files, if both are sound.
-fn count_entries(s: &[u8], t: &[u8]) -> Option<u64>
-    ensures { result ≡ count_of s.now t.now }
-{
-    let mut p = Place::start::<false>(s, t);
-    let mut entries = 0;
-    while (p.m < END) | (p.n < END) {
-        entries += p.count(s, t);
-        p = p.next::<false>(s, t);
+    // The number of entries, if both files are sound.
+    fn count(self) -> Option<u64>
+        ensures { result ≡ count_of self.entry.s.now self.entry.t.now }
+    {
+        let mut p = self.start::<false>();
+        let mut entries = 0;
+        while (p.m < END) | (p.n < END) {
+            entries += self.count_here(p);
+            p = self.next::<false>(p);
+        }
+        if p.m != END || p.n != END {
+            return None;
+        }
+        Some(entries)
     }
-    if p.m != END || p.n != END {
-        return None;
+
+    // Refuses what are not two files: by the first, else by the second.
+    fn check(self) -> Result<(), Refusal>
+        ensures { result ≡ refusals.check (file_cases self.entry.s.now ++ file_cases self.entry.t.now) }
+    {
+        files::check(self.s)?;
+        files::check(self.t)
     }
-    Some(entries)
-}
 
-// Refuses what are not two files: by the first, else by the second.
-fn check_files(s: &[u8], t: &[u8]) -> Result<(), Refusal>
-    ensures { result ≡ refusals.check (file_cases s.now ++ file_cases t.now) }
-{
-    files::check(s)?;
-    files::check(t)
-}
+    // The refusal, where one is no file.
+    fn refusal(self) -> Refusal
+        requires { files_refusal self.s.now self.t.now ≢ 0 }
+        ensures { refusals.check (file_cases self.entry.s.now ++ file_cases self.entry.t.now) ≡ Err result }
+    {
+        self.check().unwrap_err()
+    }
 
-// The refusal of two of which one is no file.
-fn files_refusal(s: &[u8], t: &[u8]) -> Refusal
-    requires { files_refusal s.now t.now ≢ 0 }
-    ensures { refusals.check (file_cases s.now ++ file_cases t.now) ≡ Err result }
-{
-    check_files(s, t).unwrap_err()
+    // Writes the list of two sound files, of so many bytes, where it fits.
+    fn fill(self, needed: usize, list: &mut [u8])
+        requires { Fits self.s.now self.t.now needed (length list.old) }
+        ensures { list.new ≡ at_front (compared.list_bytes (walks.walk (records_from self.entry.s.now 0) (records_from self.entry.t.now 0))) list.old }
+    {
+        let mut p = self.start::<true>();
+        let mut done: usize = 0;
+        while done < needed {
+            done += self.put_here(p, &mut list[done..]);
+            p = self.next::<true>(p);
+        }
+    }
 }
 
 // The number of entries of two files for a list of so many bytes, or the refusal.
 pub fn compare_of(s: &[u8], t: &[u8], room: usize) -> Result<u64, Refusal>
     ensures { result ≡ compared.compare_of s.now t.now room }
 {
+    let pair = Pair { s, t };
     if files::wrong_length(s.len()) | files::wrong_length(t.len()) {
-        return Err(files_refusal(s, t));
+        return Err(pair.refusal());
     }
-    let Some(n) = count_entries(s, t) else {
-        return Err(files_refusal(s, t));
+    let Some(n) = pair.count() else {
+        return Err(pair.refusal());
     };
     if room < ENTRY * (n as usize) {
         return Err(Refusal::BufferShort);
     }
     Ok(n)
-}
-
-// Writes the list of two sound files, of so many bytes, where it fits.
-fn fill(s: &[u8], t: &[u8], needed: usize, list: &mut [u8])
-    requires { Fits s.now t.now needed (length list.old) }
-    ensures { list.new ≡ at_front (compared.list_bytes (walks.walk (records_from s.now 0) (records_from t.now 0))) list.old }
-{
-    let mut p = Place::start::<true>(s, t);
-    let mut done: usize = 0;
-    while done < needed {
-        done += p.put(s, t, &mut list[done..]);
-        p = p.next::<true>(s, t);
-    }
 }
 
 // Writes the list at the front of a buffer, or leaves the buffer as it was beside a refusal.
@@ -303,6 +313,6 @@ pub fn compare(s: &[u8], t: &[u8], list: &mut [u8]) -> Result<(), Refusal>
     ensures list { list.new ≡ compared.list_after s.now t.now list.old }
 {
     let n = compare_of(s, t, list.len())?;
-    fill(s, t, ENTRY * (n as usize), list);
+    Pair { s, t }.fill(ENTRY * (n as usize), list);
     Ok(())
 }

@@ -1,7 +1,7 @@
 -- Where the moments are one, both records are there.
 use Rattle.std.proofs.Common.{arith}
 use Rattle.compare.proofs.Steps.{first_found, second_found, found_reads}
-use Rattle.compare.proofs.Place.count.Goals as goal
+use Rattle.compare.proofs.Pair.count_here.Goals as goal
 
 pub record_at-requires : goal.record_at-requires
 record_at-requires c = found_reads (first_found c.requires (omega arith))

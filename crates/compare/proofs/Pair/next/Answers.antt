@@ -1,7 +1,7 @@
 -- Behind the first file's record, behind the second's, or behind both.
 use Rattle.std.proofs.Common.{arith}
 use Rattle.compare.proofs.Steps.{first_room, first_known, second_room, second_known}
-use Rattle.compare.proofs.Place.next.Goals as goal
+use Rattle.compare.proofs.Pair.next.Goals as goal
 
 pub past_first-requires-clause-place : goal.past_first-requires-clause-place
 past_first-requires-clause-place g c = first_room c.requires (omega arith)

@@ -1,5 +1,5 @@
 use Rattle.files.specs.Inner.{sound}
-use Rattle.compare.proofs.Place.start.Goals as goal
+use Rattle.compare.proofs.Pair.start.Goals as goal
 
 pub moment_at-requires-clause-known : goal.moment_at-requires-clause-known
 unfolding sound
