@@ -7,7 +7,7 @@ use mathlib.Core.List.{List, [], ◌∷◌, ◌++◌}
 use native.Mathlib.Omega.{arith}
 use native.Mathlib.Decide.{ℕ_discrete, dec_lt}
 use lib.ListN.{length, drop, take, length-drop}
-use lib.Seq.{take_all, take_at, drop_at, drop-drop}
+use lib.Seq.{take_at, drop_at, drop-drop}
 use Rattle.record.specs.Format.{record_length}
 use Rattle.std.specs.Prelude.{Result, Ok, Err, ⊤, is_err}
 use Rattle.instants.specs.declared.refusal.Refusal.{Refusal}

@@ -45,7 +45,7 @@ roomy s =
     let m = rescue_most s (ltb-false most_bytes (length s) h.0) in
     rw (le-ltb records_room (record_length * kept_count s) m.0, le-ltb list_room (entry_length * length (ranges_in s)) m.1) refl)
 
-module _ (s : List ℕ) (n : ℕ) (e : rescue_of s records_room list_room ≡ Err n) where
+module _ (s : List ℕ) (n : Refusal) (e : rescue_of s records_room list_room ≡ Err n) where
   pub none_written : records_text s ≡ []
   unfolding records_text
   none_written = refused_alike Err (λ _. []) (input_cases s) (Ok (counts_of s)) _ n (λ k p. cc) (λ p. impossible (cc)) (sym (roomy s) ∙ e)

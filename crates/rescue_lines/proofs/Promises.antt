@@ -5,6 +5,7 @@ use mathlib.Core.Path.{◌≡◌, refl}
 use mathlib.Core.List.{List, [], ◌∷◌, ◌++◌}
 use lib.ListN.{length}
 use borrow.Author.Tests.{lt-ltb, le-ltb}
+use Rattle.instants.specs.Refusals.{number}
 use Rattle.record.specs.Records.{read_of}
 use Rattle.rescue.specs.Walk.{ranges_of, stepping, walk_from}
 use Rattle.rescue.specs.Rescue.{most_bytes, kept_count, ranges_in, passed_count, counts_of, kept_bytes}
@@ -32,7 +33,7 @@ records_refused s h = rw (lt-ltb most_bytes (length s) h) refl
 
 -- PROMISE. To standard error goes "refused 25".
 pub report_refused : (s : List ℕ) → most_bytes < length s → report_text s ≡ ascii "refused 25\n"
-unfolding report_text refusal_text numeral_in
+unfolding report_text refusal_text number numeral_in
 report_refused s h = rw (lt-ltb most_bytes (length s) h) refl
 
 -- ---- two reports

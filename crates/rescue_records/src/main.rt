@@ -2,31 +2,31 @@
 // input is a few records, some of them damaged.
 #![tactic(auto)]
 
-ghost use Rattle.std.specs.Prelude.{◌≤◌, length};
-
 use std::io::{Read, Stdin};
 
-// Reads standard input until s is full, the input ends or a read fails. Returns how many bytes it put at the front of s.
-fn read_full(mut input: Stdin, s: &mut [u8]) -> usize
-    ensures { result ≤ length s.new }
-{
+// One byte more than is accepted, which decides.
+const MOST: usize = 65_537;
+
+// Reads standard input until s is full, the input ends or a read fails, and returns the part of s that it filled. No index is saved: how far it has come is
+// where the next read begins.
+fn read_full(mut input: Stdin, s: &mut [u8]) -> &[u8] {
     let mut n = 0;
     while n < s.len() {
         let Ok(got) = input.read(&mut s[n..]) else {
-            return n;
+            break;
         };
         if got == 0 {
-            return n;
+            break;
         }
         n += got;
     }
-    n
+    &s[..n]
 }
 
-// Of so many bytes read and the most that are: says that the input was not read to its end, where there are fewer and one more read does not give the end.
-// Then a read failed, as it does on a bad disk.
-fn say_unread(rt: HostRuntime, size: usize, most: usize) {
-    if size < most {
+// Says that the input was not read to its end, where fewer bytes than the most were read and one more read does not give the end. Then a read failed, as it
+// does on a bad disk.
+fn say_unread(rt: HostRuntime, read: &[u8]) {
+    if read.len() < MOST {
         let mut one = [0u8; 1];
         let Ok(0) = rt.stdin().read(&mut one) else {
             let _ = rt
@@ -37,15 +37,14 @@ fn say_unread(rt: HostRuntime, size: usize, most: usize) {
     }
 }
 
-// One byte more than is accepted decides. The records are written first, and the report whether or not they could be; where one of the two could not, one
-// line to standard error says so.
+// The records are written first, and the report whether or not they could be; where one of the two could not, one line to standard error says so.
 fn main(rt: HostRuntime) {
-    let mut input = [0u8; 65537];
-    let n = read_full(rt.stdin(), &mut input);
-    say_unread(rt, n, 65537);
+    let mut input = [0u8; MOST];
+    let read = read_full(rt.stdin(), &mut input);
+    say_unread(rt, read);
     let mut records = [0u8; rescue_lines::RECORDS];
     let mut report = [0u8; rescue_lines::REPORT];
-    let sizes = rescue_lines::answer(&input[..n], &mut records, &mut report);
+    let sizes = rescue_lines::answer(read, &mut records, &mut report);
     let kept = sizes.records;
     let said = sizes.report;
     let output = rt.write_all(&records[..kept]).is_ok();

@@ -1,8 +1,7 @@
-use Rattle.std.proofs.Common.{ℕ, ◌≡◌, ◌+◌, ◌≤◌, nat_lt, length, refl, sym, ap, ◌∙◌, arith}
+use Rattle.std.proofs.Common.{ℕ, ◌≡◌, ◌≤◌, nat_lt, length, refl, ap, ◌∙◌, arith}
 use Rattle.std.specs.Int.{from_bool}
-use Rattle.rescue.specs.declared.Counts.{Counts}
 use Rattle.rescue.specs.Inner.{Turned}
-use Rattle.rescue.proofs.Rounds.{turn_within, Counted, counted_none, counted_more, counted_few, counted_all}
+use Rattle.rescue.proofs.Rounds.{turn_within, counted_none, counted_more, counted_few, counted_all}
 use Rattle.rescue.proofs.count.Goals as goal
 
 pub loop-t-init : goal.loop-t-init

@@ -1,4 +1,4 @@
-use Rattle.std.proofs.Common.{◌≡◌, ◌≤◌, length, refl, sym, ◌∙◌}
+use Rattle.std.proofs.Common.{refl, sym, ◌∙◌}
 use Rattle.bigendian.proofs.Buffers.{front_copy}
 use Rattle.rescue.specs.Inner.{Turned}
 use Rattle.rescue.proofs.Rounds.{turn_within, written_none, list_room_lem, records_room_lem, written_more, written_all}

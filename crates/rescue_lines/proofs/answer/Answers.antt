@@ -17,52 +17,52 @@ zeros_long : length zeros ≡ 16920
 zeros_long = length-replicate {A = ℕ} 16920 0
 
 pub refuse-requires : goal.refuse-requires
-refuse-requires c = omega (arith, c.told-report, refusal_most c.in-NoRescue.n)
+refuse-requires c = omega (arith, c.told-report, refusal_most c.in-Err.r)
 
 pub overflow_mul-result : goal.overflow_mul-result
-overflow_mul-result c = omega (arith, kept_most _ _ (sym c.in-Rescued.ensures))
+overflow_mul-result c = omega (arith, kept_most _ _ (sym c.in-Ok.ensures))
 
 pub put_report-requires-clause-entries : goal.put_report-requires-clause-entries
 put_report-requires-clause-entries c =
-    let e = sym c.in-Rescued.ensures in
+    let e = sym c.in-Ok.ensures in
     let l = ap length c.rescue.ensures.list ∙ list_long _ _ e c.args.records.now zeros c.told-records zeros_long in
     omega (arith, l, ranges_most _ _ e)
 
 pub put_report-requires-clause-room : goal.put_report-requires-clause-room
-put_report-requires-clause-room c = omega (arith, c.told-report, ranges_most _ _ (sym c.in-Rescued.ensures))
+put_report-requires-clause-room c = omega (arith, c.told-report, ranges_most _ _ (sym c.in-Ok.ensures))
 
-pub returns-in-NoRescue-clause-sizes : goal.returns-in-NoRescue-clause-sizes
-returns-in-NoRescue-clause-sizes c =
-    let e = sym c.in-NoRescue.ensures in
+pub returns-in-Err-clause-sizes : goal.returns-in-Err-clause-sizes
+returns-in-Err-clause-sizes c =
+    let e = sym c.in-Err.ensures in
     (sym (ap length (none_written _ _ e)), c.refuse.ensures.size ∙ ap length (refusal_written _ _ e))
 
-pub returns-in-NoRescue-clause-records : goal.returns-in-NoRescue-clause-records
-returns-in-NoRescue-clause-records c =
+pub returns-in-Err-clause-records : goal.returns-in-Err-clause-records
+returns-in-Err-clause-records c =
     let old = c.args.records.now in
-    sym (ap (λ (t : List ℕ). at_front t old) (none_written _ _ (sym c.in-NoRescue.ensures)) ∙ front_none old)
+    sym (ap (λ (t : List ℕ). at_front t old) (none_written _ _ (sym c.in-Err.ensures)) ∙ front_none old)
 
-pub returns-in-NoRescue-clause-report : goal.returns-in-NoRescue-clause-report
-returns-in-NoRescue-clause-report c =
+pub returns-in-Err-clause-report : goal.returns-in-Err-clause-report
+returns-in-Err-clause-report c =
     let old = c.args.report.now in
-    c.refuse.ensures.buffer ∙ ap (λ (t : List ℕ). at_front t old) (refusal_written _ _ (sym c.in-NoRescue.ensures))
+    c.refuse.ensures.buffer ∙ ap (λ (t : List ℕ). at_front t old) (refusal_written _ _ (sym c.in-Err.ensures))
 
-pub returns-in-Rescued-clause-sizes : goal.returns-in-Rescued-clause-sizes
-returns-in-Rescued-clause-sizes c =
-    let e = sym c.in-Rescued.ensures in
-    let a = c.in-Rescued.c in
+pub returns-in-Ok-clause-sizes : goal.returns-in-Ok-clause-sizes
+returns-in-Ok-clause-sizes c =
+    let e = sym c.in-Ok.ensures in
+    let a = c.in-Ok.c in
     let text =
     ap (λ (l : List ℕ). lines_text (listed a.ranges l) ++ totals_text a) c.rescue.ensures.list
     ∙ report_written _ _ e c.args.records.now zeros c.told-records zeros_long in
     (records_size _ _ e, c.put_report.ensures.size ∙ ap length text)
 
-pub returns-in-Rescued-clause-records : goal.returns-in-Rescued-clause-records
-returns-in-Rescued-clause-records c =
-    c.rescue.ensures.records ∙ records_written _ _ (sym c.in-Rescued.ensures) c.args.records.now zeros c.told-records zeros_long
+pub returns-in-Ok-clause-records : goal.returns-in-Ok-clause-records
+returns-in-Ok-clause-records c =
+    c.rescue.ensures.records ∙ records_written _ _ (sym c.in-Ok.ensures) c.args.records.now zeros c.told-records zeros_long
 
-pub returns-in-Rescued-clause-report : goal.returns-in-Rescued-clause-report
-returns-in-Rescued-clause-report c =
-    let e = sym c.in-Rescued.ensures in
-    let a = c.in-Rescued.c in
+pub returns-in-Ok-clause-report : goal.returns-in-Ok-clause-report
+returns-in-Ok-clause-report c =
+    let e = sym c.in-Ok.ensures in
+    let a = c.in-Ok.c in
     let old = c.args.report.now in
     let text =
     ap (λ (l : List ℕ). lines_text (listed a.ranges l) ++ totals_text a) c.rescue.ensures.list

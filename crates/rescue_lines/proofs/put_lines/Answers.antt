@@ -1,13 +1,11 @@
-use Rattle.std.proofs.Common.{◌≡◌, ◌+◌, ◌*◌, ◌≤◌, ◌<◌, ◌/◌, ℕ, List, ◌++◌, length, drop, refl, ap, sym, ◌∙◌, add-one, arith, length-take, length-drop}
+use Rattle.std.proofs.Common.{◌≡◌, ◌+◌, ◌++◌, length, refl, ap, sym, ◌∙◌, add-one, arith, length-take, length-drop}
 use Rattle.std.proofs.lemmas.List.{length_push}
 use Rattle.bigendian.proofs.Buffers.{front_none}
 use Rattle.rescue.specs.declared.Range.{Range}
-use Rattle.rescue.specs.Rescue.{entry_length}
 use Rattle.rescue.specs.Claims.{listed}
 use Rattle.text.proofs.Pieces.{more_put}
 use Rattle.rescue_lines.specs.Lines.{line_text, lines_text}
-use Rattle.rescue_lines.specs.Inner.{line_most}
-use Rattle.rescue_lines.proofs.Lines.{line_most_lem, entry_at, entry_there, entry_behind, chunk_within, all_entries, lines_more}
+use Rattle.rescue_lines.proofs.Lines.{line_most_lem, entry_there, entry_behind, chunk_within, all_entries, lines_more}
 use Rattle.rescue_lines.proofs.put_lines.Goals as goal
 
 pub loop-entry-init : goal.loop-entry-init

@@ -1,7 +1,6 @@
 -- The lines are put first, and the totals behind them.
-use Rattle.std.proofs.Common.{◌≡◌, ◌+◌, ◌*◌, List, ℕ, ◌++◌, ◌≤◌, length, ap, ◌∙◌, length-append, arith}
+use Rattle.std.proofs.Common.{List, ℕ, ◌++◌, ◌≤◌, length, ap, ◌∙◌, length-append, arith}
 use Rattle.bigendian.specs.Buffers.{at_front}
-use Rattle.rescue.specs.Rescue.{entry_length}
 use Rattle.rescue.specs.Claims.{listed}
 use Rattle.text.proofs.Pieces.{Puts, put_room, more_put}
 use Rattle.rescue_lines.specs.Lines.{lines_text, totals_text}
