@@ -14,7 +14,7 @@ use Rattle.bigendian.proofs.Buffers.{Keeps, kept, front_keeps, front_length, fro
 use Rattle.instants.specs.declared.refusal.Refusal.{Refusal}
 use Rattle.instants.specs.Instants.{instant_cases, IsAccepted, later_day, later_micros}
 use Rattle.instants.proofs.Impossible.{impossible}
-use Rattle.instants.proofs.FirstRefusal.{none_both, in_each, refused_alike, none_answered, refused_same, first_none}
+use Rattle.instants.proofs.FirstRefusal.{none_both, in_each, refused_alike, none_answered, refused_same, refused_checked, first_none}
 use Rattle.record.specs.Format.{record_length}
 use Rattle.record.specs.Records.{written}
 use Rattle.record.proofs.Written.{written_is, record_length_lem}
@@ -22,7 +22,9 @@ use Rattle.zonal.specs.declared.Corrections.{Corrections}
 use Rattle.zonal.specs.Ours.{zonal_of}
 use Rattle.run.specs.Run.{end_cases, run_cases, run_refusal, record_at, run_bytes, run_written}
 use Rattle.run.specs.Inner.{written_at}
-use Rattle.std.specs.Prelude.{Ok, Err}
+use Rattle.run.proofs.Refusals.{run_checked}
+use Rattle.instants.specs.Refusals.{check, refusal_of}
+use Rattle.std.specs.Prelude.{Ok, Err, ⊤}
 
 -- the record of an accepted instant, written at the front of a buffer with room for it
 written_accepted : (d : ℤ) (m : ℕ) (old : List ℕ) → IsAccepted d m → record_length ≤ length old → written_at d m old ≡ at_front (record_at d m) old
@@ -65,6 +67,17 @@ refused_unchanged d m count step old h = refused_same old (run_cases d m count s
 pub run_written_lem : (d : ℤ) (m count step : ℕ) (old : List ℕ) → run_refusal d m count step (length old) ≡ 0 → run_written d m count step old ≡ at_front (run_bytes d m step count) old
 unfolding run_refusal run_written
 run_written_lem d m count step old e = let cs = run_cases d m count step (length old) in none_answered (λ _. old) cs _ (first_none cs e)
+
+-- the buffer beside a refusal of the run's test, and where that passes
+pub run_refused : (d : ℤ) (m count step : ℕ) (old : List ℕ) {r : Refusal} → check (run_cases d m count step (length old)) ≡ Err r → run_written d m count step old ≡ old
+unfolding run_written
+run_refused d m count step old {r} e = refused_checked (λ _. old) (run_cases d m count step (length old)) _ r e
+
+pub run_passed : (d : ℤ) (m count step : ℕ) (old : List ℕ) {u : ⊤} → check (run_cases d m count step (length old)) ≡ Ok u
+    → (run_refusal d m count step (length old) ≡ 0) × (run_written d m count step old ≡ at_front (run_bytes d m step count) old)
+run_passed d m count step old {u} e =
+    let n : run_refusal d m count step (length old) ≡ 0 = sym (run_checked d m count step (length old)) ∙ ap refusal_of e in
+    (n, run_written_lem d m count step old n)
 
 -- PROMISE. A run leaves the buffer as long as it is, and every byte behind its records as it was.
 pub run_keeps : (d : ℤ) (m count step : ℕ) (old : List ℕ) → Keeps (record_length * count) old (run_written d m count step old)

@@ -84,10 +84,10 @@ module _ (d : ℤ) (m count step n : ℕ) (h : Counted count step) where
 
     -- and after an accepted one the buffer is tested
     pub refused_short : {i : ℕ} → acceptance (later_day d m ((count - 1) * step)) (later_micros m ((count - 1) * step)) ≡ Ok i
-        → check (case BufferShort (ltb n (record_length * count)) ∷ []) ≡ check (run_cases d m count step n)
-    refused_short {i} e =
+        → (b : Bool) → ltb n (record_length * count) ≡ b → check (case BufferShort b ∷ []) ≡ check (run_cases d m count step n)
+    refused_short {i} e b s =
         let k = answered_none Err (case Day past ∷ []) _ (Ok i) (λ n p. impossible (cc)) (sym last ∙ e) in
-        sym (none_answered Err (case Day past ∷ []) _ k.0) ∙ refused_later
+        ap (λ (x : Bool). check (case BufferShort x ∷ [])) (sym s) ∙ (sym (none_answered Err (case Day past ∷ []) _ k.0) ∙ refused_later)
 
 -- What holds of a run that is not refused.
 pub record NotRefused (d : ℤ) (m count step n : ℕ) : Type 0 where
