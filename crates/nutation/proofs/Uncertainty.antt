@@ -9,7 +9,7 @@ use native.Mathlib.Omega.{arith}
 use lib.Dec.{lit≤, ltb→lt}
 use lib.IntN.{ℤ, pos}
 use lib.Signed.{◌<ℤ◌}
-use Rattle.instants.specs.Refusals.{refused_or}
+use Rattle.instants.specs.Refusals.{refused_or, number}
 use Rattle.instants.specs.Instants.{instant_cases, IsAccepted}
 use Rattle.instants.specs.Moments.{moment_of}
 use Rattle.instants.proofs.FirstRefusal.{in_both_lem, none_answered}
@@ -109,4 +109,4 @@ pub rows_same : (s : List ℕ) (d : ℤ) (m : ℕ) → nutation_rows_of s d m �
 unfolding nutation_rows_of
 rows_same s d m =
     in_both_lem (λ (x y : (Result Offsets Refusal)). x ≡ y) Err Err (bytes_cases s) _ _ (λ n. refl)
-    (λ h. answer_same (table_in s) (table_held s (none_answered (λ n. n) (bytes_cases s) 0 h)) d m)
+    (λ h. answer_same (table_in s) (table_held s (none_answered number (bytes_cases s) 0 h)) d m)

@@ -108,9 +108,7 @@ fn offset_of(c: i64, s: i64, cos: i64, sin: i64) -> i64
 
 // A quotient, rounded up.
 fn round_up(n: u64, d: u64) -> u64
-    requires positive { 0 < d }
-    requires dividend { n ≤ 2 ^ 63 }
-    requires divisor { d ≤ 2 ^ 62 }
+    requires { 0 < d }
     ensures { result ≡ round_up n d }
 {
     n.div_ceil(d)
@@ -144,12 +142,7 @@ fn uncertainty_between(a: Row, b: Row, x: u64) -> u64
     requires { Placed (Between a b) x }
     ensures { result ≡ uncertainty_at (Between a b) x }
 {
-    uncertainty_mixed(
-        a.uncertainty,
-        b.uncertainty,
-        b.day - a.day,
-        x - a.moment(),
-    )
+    uncertainty_mixed(a.uncertainty, b.uncertainty, b.day - a.day, x - a.moment())
 }
 
 // The uncertainty at a place, by its two kinds.

@@ -12,6 +12,6 @@ returns c =
     let a = c.args.a in
     let b = c.args.b in
     let l : c.factor_of-l.result ≡ factor a b c.args.x =
-    c.factor_of-l.ensures.factor ∙ ap (λ (k : ℕ). (c.args.x - k) * 2 ^ 27 / ((b.day - a.day) * day_micros)) c.row_moment.ensures
+    c.factor_of-l.ensures.factor ∙ ap (λ (k : ℕ). (c.args.x - k) * 2 ^ 27 / ((b.day - a.day) * day_micros)) c.moment.ensures
     ∙ sym (factor_is a b c.args.x c.requires.2) in
     search rules

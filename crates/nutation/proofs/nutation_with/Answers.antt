@@ -1,11 +1,9 @@
--- By the two cases of acceptance: the refusal is handed on, and of an accepted instant the moment is that of its day's index and its place one among the rows.
-use Rattle.std.proofs.Common.{◌≡◌, ℕ, ℤ, sym, ap, ◌∙◌, subst, arith}
+-- By the two cases of acceptance: the refusal is handed on, and an accepted instant's moment has its place among the rows.
+use Rattle.std.proofs.Common.{Ok, Err, ℕ, sym, ap, ◌∙◌, subst}
 use native.Mathlib.Nat.{le_trans, le_of_eq}
-use Rattle.std.proofs.Math.Facts.{to_z-of_z}
-use Rattle.instants.specs.Instants.{acceptance}
-use Rattle.instants.specs.Moments.{moment}
+use Rattle.std.proofs.lemmas.Result.{err_from_is_err_and}
 use Rattle.instants.proofs.Accepted.{accepted_at, refused_too, answered_too}
-use Rattle.instants.proofs.Moments.{moment_le}
+use Rattle.instants.proofs.Moments.{accepted_le}
 use Rattle.rows.specs.declared.Place.{Place}
 use Rattle.rows.specs.Places.{place}
 use Rattle.rows.specs.Inner.{Placed}
@@ -13,40 +11,29 @@ use Rattle.rows.proofs.Places.{placed}
 use Rattle.row_bytes.specs.Form.{table_in}
 use Rattle.nutation.specs.Ours.{offsets_at}
 use Rattle.nutation.proofs.nutation_with.Goals as goal
-use Rattle.std.specs.Prelude.{Result, Ok, Err}
-use Rattle.instants.specs.declared.refusal.Refusal.{Refusal}
 
--- what was answered of the day as the machine reads it back is answered of the day
-says : {a : (Result ℕ Refusal)} {d d' : ℤ} (m : ℕ) → a ≡ acceptance d m → d ≡ d' → acceptance d' m ≡ a
-says m e p = sym (e ∙ ap (λ (d : ℤ). acceptance d m) p)
+pub returns-in_err-accept : goal.returns-in_err-accept
+returns-in_err-accept c =
+    let p = err_from_is_err_and c.from_residual.result c.from_residual.ensures.1 in
+    p.1 ∙ ap Err p.2 ∙ refused_too Err _ c.args.at.day c.args.at.micros (sym c.in_err-accept.ensures)
 
-pub moment-x-requires-clause-index : goal.moment-x-requires-clause-index
-moment-x-requires-clause-index c =
-    let f = says c.args.micros c.in-Accepted.ensures (to_z-of_z c.ranges.day) in
-    let k = accepted_at _ _ _ f in
-    omega (arith, k.high)
-
-pub moment-x-requires-clause-micros : goal.moment-x-requires-clause-micros
-moment-x-requires-clause-micros c =
-    let f = says c.args.micros c.in-Accepted.ensures (to_z-of_z c.ranges.day) in
-    (accepted_at _ _ _ f).less
+pub moment-x-requires : goal.moment-x-requires
+moment-x-requires c =
+    let e = sym c.in_ok-accept.ensures in
+    e ∙ ap Ok (sym (accepted_at c.args.at.day c.args.at.micros _ e).index)
 
 pub offsets_of-requires-clause-placed : goal.offsets_of-requires-clause-placed
 offsets_of-requires-clause-placed c =
-    subst (λ (p : Place). Placed p c.moment-x.result) (sym c.place_at.ensures) (placed (table_in c.args.s.now) c.requires.accepted c.moment-x.result)
+    subst (λ (p : Place). Placed p c.moment-x.result) (sym c.place_at.ensures) (placed (table_in c.args.t.bytes.now) c.args.t.lent.accepted c.moment-x.result)
 
 pub offsets_of-requires-clause-covered : goal.offsets_of-requires-clause-covered
 offsets_of-requires-clause-covered c =
-    let f = says c.args.micros c.in-Accepted.ensures (to_z-of_z c.ranges.day) in
-    let k = accepted_at _ _ _ f in
-    le_trans (le_of_eq c.moment-x.ensures) (moment_le _ _ (omega (arith, k.high)) k.less)
+    let e = sym c.in_ok-accept.ensures in
+    let a = e ∙ ap Ok (sym (accepted_at c.args.at.day c.args.at.micros _ e).index) in
+    le_trans (le_of_eq c.moment-x.ensures) (accepted_le c.args.at.day c.args.at.micros a)
 
-pub returns-in-NotAccepted : goal.returns-in-NotAccepted
-returns-in-NotAccepted c = refused_too Err _ _ _ (says c.args.micros c.in-NotAccepted.ensures (to_z-of_z c.ranges.day))
-
-pub returns-in-Accepted : goal.returns-in-Accepted
-returns-in-Accepted c =
-    let f = says c.args.micros c.in-Accepted.ensures (to_z-of_z c.ranges.day) in
-    let e = c.moment-x.ensures ∙ ap (λ (i : ℕ). moment i c.args.micros) (sym (accepted_at _ _ _ f).index) in
-    ap Ok (c.offsets_of.ensures ∙ ap (λ (p : Place). offsets_at p c.moment-x.result) c.place_at.ensures ∙ ap (λ (x : ℕ). offsets_at (place (table_in c.args.s.now) x) x) e)
-    ∙ answered_too Err _ _ _ f
+pub returns : goal.returns
+returns c =
+    let rows = table_in c.args.t.bytes.now in
+    ap Ok (c.offsets_of.ensures ∙ ap (λ (p : Place). offsets_at p c.moment-x.result) c.place_at.ensures ∙ ap (λ (x : ℕ). offsets_at (place rows x) x) c.moment-x.ensures)
+    ∙ answered_too Err _ c.args.at.day c.args.at.micros (sym c.in_ok-accept.ensures)

@@ -9,5 +9,5 @@ pub returns : goal.returns
 returns c =
     let a = c.args.a in
     let b = c.args.b in
-    c.uncertainty_mixed.ensures ∙ ap (λ (k : ℕ). twice_between a.uncertainty b.uncertainty ((b.day - a.day) * day_micros) (c.args.x - k)) c.row_moment.ensures
+    c.uncertainty_mixed.ensures ∙ ap (λ (k : ℕ). twice_between a.uncertainty b.uncertainty ((b.day - a.day) * day_micros) (c.args.x - k)) c.moment.ensures
     ∙ sym (between_is a b c.args.x c.requires.2)
