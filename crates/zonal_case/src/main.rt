@@ -1,30 +1,8 @@
 // The test case of RG_ZONT2, day 54465, microsecond 0: each number beside the routine's own, and how far apart they are in its unit.
 #![tactic(auto)]
 
+use instants::Instant;
 use std::io;
-use zonal::ZonalAnswer;
-
-// A signed number and 2^31, so that it is not negative.
-fn raised(z: i32) -> u64 {
-    (z as i64 + 0x8000_0000) as u64
-}
-
-// A signed number in decimal.
-fn print_signed(rt: &impl Print, z: i32) -> io::Result<()> {
-    let u = raised(z);
-    if u < 0x8000_0000 {
-        print!(rt; "-{}", 0x8000_0000 - u)
-    } else {
-        print!(rt; "{}", u - 0x8000_0000)
-    }
-}
-
-// How far apart two numbers are.
-fn apart(a: i32, b: i32) -> u64 {
-    let u = raised(a);
-    let v = raised(b);
-    if u < v { v - u } else { u - v }
-}
 
 // Our number, the routine's as it prints it and rounded to our unit, and the limit: the distance stays below it, so that the rounding counts.
 fn compare(
@@ -33,24 +11,25 @@ fn compare(
     ours: i32,
     printed: &str,
     theirs: i32,
-    limit: u64,
+    limit: u32,
 ) -> io::Result<()> {
-    let distance = apart(ours, theirs);
-    print!(rt; "{name}")?;
-    print_signed(rt, ours)?;
-    print!(rt; "{printed}{distance}")?;
-    if distance < limit {
-        print!(rt; " apart, within ")?;
+    let distance = ours.abs_diff(theirs);
+    let within = if distance < limit {
+        "within"
     } else {
-        print!(rt; " apart, NOT within ")?;
-    }
-    println!(rt; "{limit}")
+        "NOT within"
+    };
+    println!(rt; "{name}{ours}{printed}{distance} apart, {within} {limit}")
 }
 
 // The three numbers, each compared.
 fn main(rt: HostRuntime) -> io::Result<()> {
-    match zonal::zonal_of(54465, 0) {
-        ZonalAnswer::Zonal(c) => {
+    let t = Instant {
+        day: 54465,
+        micros: 0,
+    };
+    match zonal::zonal_of(t) {
+        Ok(c) => {
             compare(
                 &rt,
                 "UT1 ",
@@ -76,6 +55,6 @@ fn main(rt: HostRuntime) -> io::Result<()> {
                 6,
             )
         }
-        ZonalAnswer::NoZonal(n) => println!(rt; "refused {n}"),
+        Err(r) => println!(rt; "refused {}", u32::from(r)),
     }
 }
