@@ -148,6 +148,12 @@ module _ (s : List ℕ) (i t : ℕ) where
     pub known_there : moment_in 0 (read_of (drop i s)) ≡ next_moment t (answers_from s i)
     known_there = read.1 ∙ moment_there h
 
+-- of what reads as the record r
+pub moment_known : (s : List ℕ) (r : Record) → ◌≡◌ {A = Result Record Refusal} (Ok r) (read_of s) → when r ≡ moment_in 0 (read_of s)
+moment_known s r e =
+    let z : when r ≡ moment_in 0 (Ok r) = sym (rw (after_zero r) refl) in
+    z ∙ ap (moment_in 0) e
+
 -- of an answer that is no record, and of one whose moment is m
 pub moment_unread : (t : ℕ) (x : (Result Record Refusal)) → is_record x ≡ false → unsound ≡ moment_in t x
 moment_unread t (Err n) e = refl

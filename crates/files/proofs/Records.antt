@@ -16,7 +16,7 @@ use Rattle.record.specs.declared.Record.{Record}
 use Rattle.record.specs.Format.{record_length}
 use Rattle.record.specs.Records.{read_of}
 use Rattle.record.proofs.Unrefused.{read_accepted, read_day_fits, read_numbers_fit}
-use Rattle.files.specs.Files.{most_bytes, answers, answers_in, records_among, when, starts_after, rises, wrong_length, reading_cases, order_cases, file_cases, IsFile, NoFile, file_of}
+use Rattle.files.specs.Files.{most_bytes, answers, answers_in, records_among, when, starts_after, rises, wrong_length, reading_cases, order_cases, file_cases, file_of}
 use Rattle.files.specs.Claims.{Each, AcceptedRecord, Fitting}
 use Rattle.instants.proofs.Order.{moment_order}
 use Rattle.std.specs.Prelude.{Result, Ok, Err}
@@ -47,7 +47,7 @@ recorded (suc n) s h = by (read_of s) refl h (recorded n (drop record_length s))
         → Recorded (suc n) s (records_among (x ∷ answers n (drop record_length s)))
     by (Err m) p h f = absurd (true≢false h.0)
     by (Ok r) p h f =
-        let more : Recorded n (drop record_length s) (records_among (answers n (drop record_length s))) = f h.1 in
+        let more : Recorded n (drop record_length s) (records_among (answers n (drop record_length s))) = f h in
         let w = read_numbers_fit s r p in
         record {
           count = ap suc more.count;
@@ -60,21 +60,21 @@ recorded (suc n) s h = by (read_of s) refl h (recorded n (drop record_length s))
         at zero q qs e = let v : r ≡ q = cc in p ∙ ap Ok v
         at (suc k) q qs e =
             let j : record_length * suc k ≡ record_length + record_length * k = omega arith in
-            ap (λ (i : ℕ). read_of (drop i s)) j ∙ (ap read_of (sym (drop-drop (record_length * k) record_length s)) ∙ (f h.1).reads k q qs e)
+            ap (λ (i : ℕ). read_of (drop i s)) j ∙ (ap read_of (sym (drop-drop (record_length * k) record_length s)) ∙ (f h).reads k q qs e)
 
 -- ---- the file
 
-module _ (s : List ℕ) (rs : List Record) (e : file_of s ≡ IsFile rs) where
-  given : NoneApplies (file_cases s) × (IsFile (records_among (answers_in s)) ≡ IsFile rs)
+module _ (s : List ℕ) (rs : List Record) (e : file_of s ≡ Ok rs) where
+  given : NoneApplies (file_cases s) × (◌≡◌ {A = Result (List Record) Refusal} (Ok (records_among (answers_in s))) (Ok rs))
   unfolding file_of
-  given = answered_none NoFile (file_cases s) (IsFile (records_among (answers_in s))) (IsFile rs) (λ n p. impossible (cc)) e
+  given = answered_none Err (file_cases s) (Ok (records_among (answers_in s))) (Ok rs) (λ n p. impossible (cc)) e
 
   -- no refusal applies
   pub file_none : NoneApplies (file_cases s)
   file_none = given.0
 
   pub file_are : records_among (answers_in s) ≡ rs
-  file_are = let g : IsFile (records_among (answers_in s)) ≡ IsFile rs = given.1 in cc
+  file_are = let g : ◌≡◌ {A = Result (List Record) Refusal} (Ok (records_among (answers_in s))) (Ok rs) = given.1 in cc
 
   parts : (wrong_length (length s) ≡ false) × NoneApplies (reading_cases (answers_in s)) × (not (rises (records_among (answers_in s))) ≡ false)
   unfolding file_cases
@@ -122,6 +122,6 @@ in_order rs h a k r q more e =
     sym (moment_order r.day r.micros q.day q.micros b.0 b.1.0) ∙ record_rises rs h k r q more e
 
 -- PROMISE. The instants of a file rise.
-pub file_in_order : (s : List ℕ) (rs : List Record) → file_of s ≡ IsFile rs → (k : ℕ) (r q : Record) (more : List Record) → drop k rs ≡ r ∷ q ∷ more
+pub file_in_order : (s : List ℕ) (rs : List Record) → file_of s ≡ Ok rs → (k : ℕ) (r q : Record) (more : List Record) → drop k rs ≡ r ∷ q ∷ more
     → (lt_z r.day q.day || (le_z r.day q.day && ltb r.micros q.micros)) ≡ true
 file_in_order s rs e = in_order rs (file_rises s rs e) (file_recorded s rs e).accepted

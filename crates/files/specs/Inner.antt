@@ -1,7 +1,6 @@
 -- What only the contracts of the code's own functions cite, here and in compare.
 use Rattle.std.specs.Prelude.{ℕ, ◌≤◌, ◌≡◌, Bool, true, false, cond, ◌&&◌, List, [], ◌∷◌, ltb, length, drop, Result, Ok, Err}
-use Rattle.instants.specs.Refusals.{first_refusal}
-use Rattle.files.specs.Files.{answers_in, when, reading_cases}
+use Rattle.files.specs.Files.{answers_in, when}
 use Rattle.record.specs.declared.Record.{Record}
 use Rattle.instants.specs.declared.refusal.Refusal.{Refusal}
 
@@ -43,7 +42,3 @@ pub record Standing (s : List ℕ) (i m : ℕ) : Type 0 where
   pub last : ℕ
   pub moment : m ≡ next_moment last (answers_from s i)
   pub rest : sound s ≡ sound_after last (answers_from s i)
-
--- the first refusal of reading, or 0
-unfoldable pub reading_refusal : List ℕ → ℕ
-reading_refusal s = first_refusal (reading_cases (answers_in s))

@@ -13,8 +13,8 @@ use record::LENGTH;
 // The most bytes of a file.
 const MOST_BYTES: usize = 65_520;
 
-// Past every moment: where a file ends. It is a number, so that a walk over two files compares two numbers at each step; with an enum it would first
-// have to tell six kinds apart.
+// Past every moment: where a file ends. These two are numbers and no cases of an enum, since a walk over two files takes the earlier of two moments at each
+// step, and so compares two numbers.
 pub const END: u64 = 0x4000_0000_0000_0000;
 
 // And past that: where the next record does not read or is not after the one before.
