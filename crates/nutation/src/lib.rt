@@ -169,7 +169,7 @@ fn offsets_of(p: Place, x: u64) -> Offsets
     let sin = sine::sine(b);
     Offsets {
         x: offset_of(a.xc, a.xs, cos, sin),
-        y: offset_of(a.xs, 0 - a.xc, cos, sin),
+        y: offset_of(a.xs, -a.xc, cos, sin),
         uncertainty: uncertainty_of(p, x),
     }
 }
