@@ -11,7 +11,7 @@ use lib.ListN.{length}
 use Rattle.line.specs.declared.Line.{Line}
 use Rattle.line.specs.Lines.{is_digit, digits, decimal_from, line_of}
 use Rattle.line.specs.Grammar.{Writes, IsLine}
-use Rattle.line.proofs.Scanning.{IsDigit, is_digit_lem, digits_more, digits_none, one_more}
+use Rattle.line.proofs.Scanning.{IsDigit, is_digit_lem, digits_more, digits_none, below_more}
 use Rattle.line.proofs.Grammar.{parsed_exactly}
 use Rattle.std.specs.Prelude.{Some}
 
@@ -27,7 +27,7 @@ decimal_small (x ∷ s) c v h = by (is_digit x) refl (λ w k. decimal_small s (c
     by true p f =
         let d : IsDigit x = is_digit_lem x p in
         let e : c + 1 + length (digits s) ≡ c + length (x ∷ digits s) = omega arith in
-        rw (digits_more x s p, ← e) (f (v * 10 + (x - 48)) (one_more c v x h d.low d.high))
+        rw (digits_more x s p, ← e) (f (v * 10 + (x - 48)) (below_more c v (x - 48) h (omega (arith, d.high))))
 
 -- a number that is written with 1 to 10 digits
 written_small : (ds : List ℕ) (v : ℕ) → Writes ds v → v < 10 ^ 10

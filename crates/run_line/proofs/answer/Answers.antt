@@ -9,38 +9,38 @@ use Rattle.run_line.proofs.Answers.{bad, no_date, on_date}
 use Rattle.run_line.proofs.answer.Goals as goal
 
 pub refuse-requires : goal.refuse-requires
-refuse-requires c = omega (arith, refusal_most c.in-NoDay.n, c.fits-buffer)
+refuse-requires c = omega (arith, refusal_most c.in-Err.r, c.fits-buffer)
 
 pub day_run-requires-clause-step : goal.day_run-requires-clause-step
-day_run-requires-clause-step c = step_small c.args.s.now c.in-Parsed.l (sym c.in-Parsed.ensures)
+day_run-requires-clause-step c = step_small c.args.s.now c.in-Some.l (sym c.in-Some.ensures)
 
-pub returns-in-BadLine-clause-size : goal.returns-in-BadLine-clause-size
-returns-in-BadLine-clause-size c = c.copy.ensures.size ∙ ap length (bad_line ∙ bad c.args.s.now (sym c.in-BadLine.ensures))
+pub returns-in_default-clause-size : goal.returns-in_default-clause-size
+returns-in_default-clause-size c = c.copy.ensures.size ∙ ap length (bad_line ∙ bad c.args.s.now (sym c.parse.ensures ∙ c.in_default.is))
 
-pub returns-in-BadLine-clause-buffer : goal.returns-in-BadLine-clause-buffer
-returns-in-BadLine-clause-buffer c =
-    c.copy.ensures.buffer ∙ ap (λ (b : List ℕ). at_front b c.args.buffer.now) (bad_line ∙ bad c.args.s.now (sym c.in-BadLine.ensures))
+pub returns-in_default-clause-buffer : goal.returns-in_default-clause-buffer
+returns-in_default-clause-buffer c =
+    c.copy.ensures.buffer ∙ ap (λ (b : List ℕ). at_front b c.args.buffer.now) (bad_line ∙ bad c.args.s.now (sym c.parse.ensures ∙ c.in_default.is))
 
-pub returns-in-NoDay-clause-size : goal.returns-in-NoDay-clause-size
-returns-in-NoDay-clause-size c =
-    c.refuse.ensures.size ∙ ap length (no_date c.args.s.now c.in-Parsed.l (sym c.in-Parsed.ensures) c.in-NoDay.n (sym c.in-NoDay.ensures))
+pub returns-in-Err-clause-size : goal.returns-in-Err-clause-size
+returns-in-Err-clause-size c =
+    c.refuse.ensures.size ∙ ap length (no_date c.args.s.now c.in-Some.l (sym c.in-Some.ensures) c.in-Err.r (sym c.in-Err.ensures))
 
-pub returns-in-NoDay-clause-buffer : goal.returns-in-NoDay-clause-buffer
-returns-in-NoDay-clause-buffer c =
+pub returns-in-Err-clause-buffer : goal.returns-in-Err-clause-buffer
+returns-in-Err-clause-buffer c =
     c.refuse.ensures.buffer
-    ∙ ap (λ (b : List ℕ). at_front b c.args.buffer.now) (no_date c.args.s.now c.in-Parsed.l (sym c.in-Parsed.ensures) c.in-NoDay.n (sym c.in-NoDay.ensures))
+    ∙ ap (λ (b : List ℕ). at_front b c.args.buffer.now) (no_date c.args.s.now c.in-Some.l (sym c.in-Some.ensures) c.in-Err.r (sym c.in-Err.ensures))
 
-pub returns-in-Day-clause-size : goal.returns-in-Day-clause-size
-returns-in-Day-clause-size c =
-    let l = c.in-Parsed.l in
-    let f : SFits w64 c.in-Day.d = search rules in
+pub returns-in-Ok-clause-size : goal.returns-in-Ok-clause-size
+returns-in-Ok-clause-size c =
+    let l = c.in-Some.l in
+    let f : SFits w64 c.in-Ok.day = search rules in
     c.day_run.ensures.size
-    ∙ ap length (ap (λ (z : ℤ). day_run_text z l.count l.step) (to_z-of_z f) ∙ on_date c.args.s.now l (sym c.in-Parsed.ensures) c.in-Day.d (sym c.in-Day.ensures))
+    ∙ ap length (ap (λ (z : ℤ). day_run_text z l.count l.step) (to_z-of_z f) ∙ on_date c.args.s.now l (sym c.in-Some.ensures) c.in-Ok.day (sym c.in-Ok.ensures))
 
-pub returns-in-Day-clause-buffer : goal.returns-in-Day-clause-buffer
-returns-in-Day-clause-buffer c =
-    let l = c.in-Parsed.l in
-    let f : SFits w64 c.in-Day.d = search rules in
+pub returns-in-Ok-clause-buffer : goal.returns-in-Ok-clause-buffer
+returns-in-Ok-clause-buffer c =
+    let l = c.in-Some.l in
+    let f : SFits w64 c.in-Ok.day = search rules in
     c.day_run.ensures.buffer
     ∙ ap (λ (b : List ℕ). at_front b c.args.buffer.now)
-    (ap (λ (z : ℤ). day_run_text z l.count l.step) (to_z-of_z f) ∙ on_date c.args.s.now l (sym c.in-Parsed.ensures) c.in-Day.d (sym c.in-Day.ensures))
+    (ap (λ (z : ℤ). day_run_text z l.count l.step) (to_z-of_z f) ∙ on_date c.args.s.now l (sym c.in-Some.ensures) c.in-Ok.day (sym c.in-Ok.ensures))
