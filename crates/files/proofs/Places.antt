@@ -9,7 +9,7 @@ use native.Mathlib.Decide.{dec_le}
 use mathlib.Core.Logic.{◌⊎◌, inl, inr}
 use lib.Dec.{ltb}
 use lib.ListN.{length, drop}
-use borrow.Author.Tests.{ltb-true, lt-ltb, le-ltb}
+use borrow.Author.Tests.{ltb-true, lt-ltb}
 use Rattle.instants.proofs.Moments.{accepted_le}
 use Rattle.record.specs.declared.Record.{Record}
 use Rattle.record.specs.Format.{record_length}
@@ -153,21 +153,3 @@ pub moment_known : (s : List ℕ) (r : Record) → ◌≡◌ {A = Result Record 
 moment_known s r e =
     let z : when r ≡ moment_in 0 (Ok r) = sym (rw (after_zero r) refl) in
     z ∙ ap (moment_in 0) e
-
--- of an answer that is no record, and of one whose moment is m
-pub moment_unread : (t : ℕ) (x : (Result Record Refusal)) → is_record x ≡ false → unsound ≡ moment_in t x
-moment_unread t (Err n) e = refl
-moment_unread t (Ok r) e = absurd (true≢false e)
-
-module _ (t m : ℕ) where
-  pub moment_early : (x : (Result Record Refusal)) → is_record x ≡ true → m ≡ moment_in 0 x → m ≤ t → unsound ≡ moment_in t x
-  moment_early (Err n) e p h = absurd (true≢false (sym e))
-  moment_early (Ok r) e p h =
-      let q : m ≡ when r = p ∙ rw (after_zero r) refl in
-      sym (rw (le-ltb t (when r) (omega (arith, q))) refl)
-
-  pub moment_later : (x : (Result Record Refusal)) → is_record x ≡ true → m ≡ moment_in 0 x → t < m → m ≡ moment_in t x
-  moment_later (Err n) e p h = absurd (true≢false (sym e))
-  moment_later (Ok r) e p h =
-      let q : m ≡ when r = p ∙ rw (after_zero r) refl in
-      q ∙ sym (rw (lt-ltb t (when r) (omega (arith, q))) refl)
