@@ -117,7 +117,7 @@ class Program:
                 place = file.other[place + 2]
             elif word == "#" or (word == "pub" and after == "("):
                 place = file.other[place + 1]
-            elif word in ("ghost", "type") or (word == "const" and after != "fn"):
+            elif word in ("ghost", "type", "static") or (word == "const" and after != "fn"):
                 place = file.to(place, [";"])
             elif word == "use":
                 place = self.imports(file, at, place + 1, [])

@@ -1,4 +1,4 @@
--- The table's rows, each of five multipliers from -2 to 3, and the sum over a row's columns, one after the other.
+-- The table's rows, whose multipliers are from -2 to 3, and the sum over a row's columns, one after the other.
 -- Assumes nothing.
 use mathlib.Core.Path.{◌≡◌, refl, ◌∙◌, ap}
 use mathlib.Core.Bool.{Bool, true, ◌&&◌}
@@ -6,7 +6,7 @@ use mathlib.Core.List.{List, [], ◌∷◌}
 use Prim.Native.Nat.{ℕ, zero, suc, ◌+◌, ◌≤◌, ◌<◌}
 use native.Mathlib.Numerals.{add-one}
 use native.Mathlib.Omega.{arith}
-use lib.Dec.{T, eqb, eqb→eq}
+use lib.Dec.{T}
 use lib.ListN.{length, get_or, drop, drop_of_length-le}
 use lib.Seq.{drop-cons}
 use lib.IntN.{ℤ, pos}
@@ -21,11 +21,8 @@ abbrev pub in_range : List ℤ → Bool
 in_range [] = true
 in_range (k ∷ ks) = le_z (− 2) k && le_z k (+ 3) && in_range ks
 
-abbrev pub row_of_five : List ℤ → Bool
-row_of_five ks = eqb (length ks) 5 && in_range ks
-
-rows_of_five : T (every row_of_five multipliers)
-rows_of_five = tt
+rows_in_range : T (every in_range multipliers)
+rows_in_range = tt
 
 range_at : (ks : List ℤ) → T (in_range ks) → (j : ℕ) → Multiplier (get_or ks j (pos 0))
 range_at [] t j = record { low = le_z_yes tt; high = le_z_yes tt }
@@ -34,15 +31,8 @@ range_at (k ∷ ks) t zero =
     record { low = le_z_yes h.0; high = le_z_yes h.1 }
 range_at (k ∷ ks) t (suc j) = range_at ks (and_split (le_z (− 2) k && le_z k (+ 3)) (in_range ks) t).1 j
 
-pub row_length_lem : (r : ℕ) → r < 62 → length (get_or multipliers r []) ≡ 5
-row_length_lem r h =
-    eqb→eq (length (get_or multipliers r [])) 5
-    (and_split (eqb (length (get_or multipliers r [])) 5) (in_range (get_or multipliers r [])) (each row_of_five multipliers rows_of_five [] r h)).0
-
 pub row_range : (r : ℕ) → r < 62 → (j : ℕ) → Multiplier (get_or (get_or multipliers r []) j (pos 0))
-row_range r h j =
-    range_at (get_or multipliers r [])
-    (and_split (eqb (length (get_or multipliers r [])) 5) (in_range (get_or multipliers r [])) (each row_of_five multipliers rows_of_five [] r h)).1 j
+row_range r h j = range_at (get_or multipliers r []) (each in_range multipliers rows_in_range [] r h) j
 
 -- ---- the sum over the columns from j on
 
