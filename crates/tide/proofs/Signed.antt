@@ -1,22 +1,15 @@
--- The day number and the six multipliers: their sizes, so that binary64 holds them, and that they are read back from their bits as they were.
--- Assumes nothing.
-use mathlib.Core.Path.{◌≡◌}
+-- The day number and the six multipliers: their sizes, so that binary64 holds them. Assumes nothing.
 use mathlib.Core.Bool.{Bool, true, false, cond, ◌&&◌}
 use Prim.Native.Nat.{ℕ, suc, ◌-◌, ◌≤◌, ◌<◌}
 use native.Mathlib.Omega.{arith}
 use lib.Dec.{T, ltb, leb, leb→le}
 use lib.IntN.{ℤ, pos, negsuc, nat_abs, ◌-ℤ◌}
 use lib.Ieee.Fits.{and_l, and_r}
-use mir.Syntax.{w64}
-use mir.Val.{SFits}
-use mir.Facts.{to_z-of_z}
-use Rattle.algebra.proofs.Bits.{read_back}
 use Rattle.instants.specs.Instants.{IsAccepted, day_index}
 use Rattle.instants.proofs.Accepted.{accepted_at}
 use Rattle.instants.specs.Limits.{index_offset, days_covered}
-use Rattle.utc.specs.declared.Reading.{Reading}
 use Rattle.tide.specs.declared.Doodson.{Doodson}
-use Rattle.tide.specs.Tidal.{in_range, all_in_range, tide_of, doodson}
+use Rattle.tide.specs.Tidal.{in_range, all_in_range}
 
 -- ---- the sizes
 pub range_size : (z : ℤ) → T (in_range z) → nat_abs z ≤ 12
@@ -69,8 +62,3 @@ each k h =
       k5 = and_l (in_range k.k5) r6 h5;
       k6 = and_l (in_range k.k6) true h6;
     }
-
--- ---- what an exported call asks for is what it was handed
-pub asked_back : {k1 k2 k3 k4 k5 k6 : ℤ} (r : Reading) → SFits w64 k1 → SFits w64 k2 → SFits w64 k3 → SFits w64 k4 → SFits w64 k5 → SFits w64 k6
-    → tide_of r (doodson (read_back k1) (read_back k2) (read_back k3) (read_back k4) (read_back k5) (read_back k6)) ≡ tide_of r (doodson k1 k2 k3 k4 k5 k6)
-asked_back r h1 h2 h3 h4 h5 h6 = rw (to_z-of_z h1, to_z-of_z h2, to_z-of_z h3, to_z-of_z h4, to_z-of_z h5, to_z-of_z h6)
