@@ -9,10 +9,10 @@ mod time;
 
 ghost use Rattle.std.specs.Prelude.{◌≡◌, ℕ, ◌*◌, ◌/◌, ◌%◌, ◌^◌, ◌≤◌, get_or, pos};
 ghost use Rattle.arguments.specs.Ours as ours;
-ghost use Rattle.instants.specs.Moments.{latest};
 ghost use Rattle.arguments.specs.Inner.{Multiplier};
 
 use argument::{D, F, L, L_PRIME, OMEGA};
+use instants::Moment;
 use time::Time;
 
 // A turn, in units of 2^-41 turn.
@@ -38,10 +38,10 @@ pub fn high(a: u64, b: u64) -> u64
 const PER_CENTURY: u64 = 98069881683;
 
 // The five arguments l, l', F, D and Omega at the moment x, each in units of 2^-41 turn.
-pub fn arguments(x: u64) -> [u64; 5]
-    requires { x ≤ latest }
-    ensures { result ≡ ours.our_arguments x }
+pub fn arguments(at: Moment) -> [u64; 5]
+    ensures { result ≡ ours.our_arguments at }
 {
+    let x = at.micros();
     let t = Time {
         x,
         s: high(x, PER_CENTURY),

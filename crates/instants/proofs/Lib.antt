@@ -6,6 +6,7 @@ pub mod Impossible
 pub mod FirstRefusal
 pub mod Signs
 pub mod Accepted
+pub mod AcceptedMoment
 pub mod LaterInstants
 pub mod Moments
 pub mod Order

@@ -4,7 +4,8 @@ use Rattle.algebra.specs.Integers.{+◌}
 use Rattle.zonal.specs.Coefficients.{coefficients}
 use Rattle.zonal.specs.declared.Sums.{Sums}
 use Rattle.zonal.specs.Exact.{ut1_sum, lod_sum, rate_sum}
-use Rattle.zonal.specs.Ours.{row_sine, row_cosine}
+use Rattle.zonal.specs.declared.Corrections.{Corrections}
+use Rattle.zonal.specs.Ours.{row_sine, row_cosine, corrections, our_ut1, our_lod, our_rate}
 
 -- of a row of the table: its coefficient in the column j times p, and that in the next times q
 abbrev pub row_term : List ℤ → ℕ → ℤ → ℤ → ℤ
@@ -33,3 +34,7 @@ pub record RowBounds (cs : List ℤ) (j : ℕ) (v p q : ℤ) : Type 0 where
 -- the three sums at the moment x
 unfoldable pub sums_at : ℕ → Sums
 sums_at x = record { ut1 = ut1_sum (row_sine x) (row_cosine x); lod = lod_sum (row_sine x) (row_cosine x); rate = rate_sum (row_sine x) (row_cosine x) }
+
+-- the corrections at the moment x
+unfoldable pub corrections_then : ℕ → Corrections
+corrections_then x = corrections (our_ut1 x) (our_lod x) (our_rate x)

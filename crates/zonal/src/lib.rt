@@ -6,12 +6,10 @@
 mod table;
 
 ghost use Rattle.std.specs.Prelude.{◌≡◌, ◌≤◌, ◌<◌, nat_abs, ◌+ℤ◌, ◌*ℤ◌};
-ghost use Rattle.instants.specs.Limits.{day_micros, days_covered};
-ghost use Rattle.instants.specs.Moments.{latest};
 ghost use Rattle.zonal.specs.Ours as ours;
-ghost use Rattle.zonal.specs.Inner.{row_term, product_most, RowBounds, sums_at};
+ghost use Rattle.zonal.specs.Inner.{row_term, product_most, RowBounds, sums_at, corrections_then};
 
-use instants::{Instant, Refusal};
+use instants::{Instant, Moment, Refusal};
 use table::{COEFFICIENTS, MULTIPLIERS};
 
 // UT1 in nanoseconds, length of day in picoseconds, rate in 10^-20 rad/s.
@@ -39,11 +37,10 @@ fn add_row(total: i64, row: &[i64; 6], column: usize, p: i64, q: i64) -> i64
 }
 
 // The sums at a moment.
-fn sums_at(x: u64) -> Sums
-    requires { x ≤ latest }
-    ensures { result ≡ sums_at x }
+fn sums_at(at: Moment) -> Sums
+    ensures { result ≡ sums_at at }
 {
-    let a = arguments::arguments(x);
+    let a = arguments::arguments(at);
     let mut total = Sums {
         ut1: 0,
         lod: 0,
@@ -71,13 +68,11 @@ fn rounded(f: i64, v: i64) -> i32
     ((f * v + HALF) >> 31) as i32
 }
 
-// The corrections of a day's index, counted from 1600-01-01, and the microseconds of that day.
-fn corrections_at(index: u64, micros: u64) -> Corrections
-    requires index { index < days_covered }
-    requires micros { micros < day_micros }
-    ensures { result ≡ ours.corrections_at index micros }
+// The corrections at a moment.
+fn corrections_at(at: Moment) -> Corrections
+    ensures { result ≡ corrections_then at }
 {
-    let v = sums_at(instants::moment(index, micros));
+    let v = sums_at(at);
     Corrections {
         ut1: rounded(10, v.ut1),
         lod: rounded(1000, v.lod),
@@ -89,6 +84,5 @@ fn corrections_at(index: u64, micros: u64) -> Corrections
 pub fn zonal_of(t: Instant) -> Result<Corrections, Refusal>
     ensures { result ≡ ours.zonal_of t.day t.micros }
 {
-    let index = t.accept()?;
-    Ok(corrections_at(index, t.micros))
+    Ok(corrections_at(t.accepted()?))
 }

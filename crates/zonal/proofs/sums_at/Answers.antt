@@ -63,7 +63,7 @@ module _ {ks : List ℤ} {a : List ℕ} (x r b : ℕ) (ek : ks ≡ get_or multip
 
 pub loop-multipliers-init : goal.loop-multipliers-init
 loop-multipliers-init c =
-    let x = c.args.x in
+    let x = c.args.at in
     record {
       within = lit≤ tt;
       ut1 = sym (weighted_zero (row_sine x) (row_cosine x) 0);
@@ -81,7 +81,7 @@ pub add_row-requires : goal.add_row-requires
 add_row-requires c =
     let l = c.loop-multipliers in
     let t = zip_turn multipliers coefficients l.yielded c.into_iter-multipliers-iterator.result l.multipliers-iterator c.next.new.self _ (search rules) (search rules) l.yielded_by _ c.in-Some.is c.next.ensures.steps in
-    let x = c.args.x in
+    let x = c.args.at in
     let r = length l.yielded in
     let s = sine_is x r c.angle-b.result (t.2 []) c.arguments-a.ensures c.angle-b.ensures c.sine-s.ensures in
     let o = cosine_is x r c.angle-b.result (t.2 []) c.arguments-a.ensures c.angle-b.ensures c.cosine-c.ensures in
@@ -91,7 +91,7 @@ pub add_row-requires-in-loop-multipliers : goal.add_row-requires-in-loop-multipl
 add_row-requires-in-loop-multipliers c =
     let l = c.loop-multipliers in
     let t = zip_turn multipliers coefficients l.yielded c.into_iter-multipliers-iterator.result l.multipliers-iterator c.next.new.self _ (search rules) (search rules) l.yielded_by _ c.in-Some.is c.next.ensures.steps in
-    let x = c.args.x in
+    let x = c.args.at in
     let r = length l.yielded in
     let s = sine_is x r c.angle-b.result (t.2 []) c.arguments-a.ensures c.angle-b.ensures c.sine-s.ensures in
     let o = cosine_is x r c.angle-b.result (t.2 []) c.arguments-a.ensures c.angle-b.ensures c.cosine-c.ensures in
@@ -101,7 +101,7 @@ pub add_row-requires-in-loop-multipliers-2 : goal.add_row-requires-in-loop-multi
 add_row-requires-in-loop-multipliers-2 c =
     let l = c.loop-multipliers in
     let t = zip_turn multipliers coefficients l.yielded c.into_iter-multipliers-iterator.result l.multipliers-iterator c.next.new.self _ (search rules) (search rules) l.yielded_by _ c.in-Some.is c.next.ensures.steps in
-    let x = c.args.x in
+    let x = c.args.at in
     let r = length l.yielded in
     let s = sine_is x r c.angle-b.result (t.2 []) c.arguments-a.ensures c.angle-b.ensures c.sine-s.ensures in
     let o = cosine_is x r c.angle-b.result (t.2 []) c.arguments-a.ensures c.angle-b.ensures c.cosine-c.ensures in
@@ -111,7 +111,7 @@ pub loop-multipliers-preserved : goal.loop-multipliers-preserved
 loop-multipliers-preserved c =
     let l = c.loop-multipliers in
     let t = zip_turn multipliers coefficients l.yielded c.into_iter-multipliers-iterator.result l.multipliers-iterator c.next.new.self _ (search rules) (search rules) l.yielded_by _ c.in-Some.is c.next.ensures.steps in
-    let x = c.args.x in
+    let x = c.args.at in
     let r = length l.yielded in
     let s = sine_is x r c.angle-b.result (t.2 []) c.arguments-a.ensures c.angle-b.ensures c.sine-s.ensures in
     let o = cosine_is x r c.angle-b.result (t.2 []) c.arguments-a.ensures c.angle-b.ensures c.cosine-c.ensures in
@@ -130,7 +130,7 @@ pub returns : goal.returns
 unfolding sums_at
 returns c =
     let l = c.loop-multipliers in
-    let x = c.args.x in
+    let x = c.args.at in
     let i = l.invariant in
     let done : length l.yielded ≡ row_count = zip_end multipliers coefficients l.yielded c.into_iter-multipliers-iterator.result l.multipliers-iterator c.next.new.self _ (search rules) (search rules) l.yielded_by c.in-None.is c.next.ensures.steps in
     same (i.ut1 ∙ ap (weighted (row_sine x) (row_cosine x) 0) done ∙ sym (ut1_is (row_sine x) (row_cosine x)))
