@@ -57,6 +57,7 @@ fn mixed_of(c: i64, d: i64, l: u64) -> i64
 }
 
 // The amplitudes at or outside an end: the row's, in units of 2^-10.
+#[tactic(auto, using(crate::proofs::Sizes::times_fits), unfolding(crate::specs::Inner::amplitudes, crate::specs::Ours::amplitude))]
 fn amplitudes_end(r: Row) -> Amplitudes
     requires { AcceptedRow r }
     ensures { (x : ℕ) → result ≡ amplitudes (End r) x }
@@ -91,6 +92,7 @@ fn amplitudes_at(p: Place, x: u64) -> Amplitudes
 }
 
 // The angle of the free core nutation, in units of 2^-41 turn.
+#[tactic(auto, unfolding(crate::specs::Ours::our_angle))]
 fn angle_at(x: u64) -> u64
     requires { x ≤ latest }
     ensures { result ≡ our_angle x }

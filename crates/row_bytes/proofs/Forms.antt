@@ -1,10 +1,9 @@
 -- Bytes are of the right form exactly when none of the cases of the form applies; then the cases that are left are those of the rows. Assumes nothing.
-use Prim.Native.Nat.{ℕ, ◌≤◌, ◌<◌}
+use Prim.Native.Nat.{ℕ, ◌≤◌}
 use mathlib.Core.Path.{◌≡◌, refl, ap, ◌∙◌}
 use mathlib.Core.Bool.{true, false, not}
 use Rattle.std.specs.Prelude.{Ok, Err, ⊤}
 use mathlib.Core.List.{List}
-use native.Mathlib.Omega.{arith}
 use borrow.Author.Tests.{ltb-false, eqb-true, le-ltb, eq-eqb, not-false}
 use lib.ListN.{length}
 use Rattle.bigendian.specs.Fields.{field_at}
@@ -12,9 +11,7 @@ use Rattle.instants.specs.Refusals.{check, number}
 use Rattle.instants.proofs.FirstRefusal.{NoneApplies, none_both, none_answered, refused_checked, passed_none, first_none}
 use Rattle.instants.specs.declared.refusal.Refusal.{Refusal}
 use Rattle.instants.specs.declared.refusal.Refusal.TheVariants.{RowsDay, RowsSize}
-use Rattle.rows.specs.Table.{row_at, fewest_rows, most_rows, days_wrong, numbers_wrong, table_cases, AcceptedTable}
-use Rattle.rows.specs.Inner.{AcceptedRow}
-use Rattle.rows.proofs.Accepted.{accepted_row}
+use Rattle.rows.specs.Table.{fewest_rows, most_rows, days_wrong, numbers_wrong, table_cases, AcceptedTable}
 use Rattle.row_bytes.specs.Form.{head_length, length_field, version_field, version, form_length, row_count, table_in, form_cases, bytes_cases, AcceptedBytes}
 use Rattle.row_bytes.specs.Inner.{Whole, Lent}
 use Rattle.row_bytes.proofs.Reading.{table_count}
@@ -80,17 +77,6 @@ table_held s e =
 -- and are lent as those of an accepted table
 pub lent : (s : List ℕ) → AcceptedBytes s → Lent s
 lent s e = record { whole = (accepted_form s e).whole; accepted = table_held s e }
-
--- of which there are two to 200, each within its limits
-module _ (s : List ℕ) (l : Lent s) where
-  pub lent_two : fewest_rows ≤ row_count (length s)
-  lent_two = omega (arith, table_count s, l.accepted.fewest)
-
-  pub lent_few : row_count (length s) ≤ most_rows
-  lent_few = omega (arith, table_count s, l.accepted.most)
-
-  pub lent_row : (i : ℕ) → i < row_count (length s) → AcceptedRow (row_at (table_in s) i)
-  lent_row i h = accepted_row (table_in s) l.accepted i (omega (arith, table_count s, h))
 
 -- the refusal of bytes: that of their form, or else that of the rows
 module _ (s : List ℕ) where

@@ -71,9 +71,9 @@ fn form(s: &[u8]) -> Result<(), Refusal>
 
 // Bytes that hold whole rows behind a head.
 #[derive(Clone, Copy)]
-struct Rows<'a> {
-    bytes: &'a [u8],
-    ghost whole: { Whole bytes.now },
+pub struct Rows<'a> {
+    pub bytes: &'a [u8],
+    pub ghost whole: { Whole bytes.now },
 }
 
 impl<'a> Rows<'a> {
@@ -85,7 +85,7 @@ impl<'a> Rows<'a> {
     }
 
     // The row at an index.
-    fn row(self, i: usize) -> Row
+    pub fn row(self, i: usize) -> Row
         requires { i < row_count (length self.bytes.now) }
         ensures { result ≡ row_at (table_in self.entry.bytes.now) i }
     {

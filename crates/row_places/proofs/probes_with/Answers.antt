@@ -1,5 +1,5 @@
 -- By the two cases of acceptance: the refusal is handed on, and an accepted instant is looked up at its moment.
-use Rattle.std.proofs.Common.{Ok, Err, ℕ, sym, ap, ◌∙◌}
+use Rattle.std.proofs.Common.{Ok, Err, sym, ap, ◌∙◌}
 use Rattle.std.proofs.lemmas.Result.{err_from_is_err_and}
 use Rattle.instants.proofs.Accepted.{accepted_at, refused_too, answered_too}
 use Rattle.row_bytes.specs.Form.{table_in}
