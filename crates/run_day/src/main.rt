@@ -12,18 +12,16 @@ fn read_line(mut input: Stdin, s: &mut [u8]) -> usize
     ensures { result ≤ length s.new }
 {
     let mut one = [0u8; 1];
-    let mut n = 0;
-    while n < s.len() {
+    for (n, x) in s.iter_mut().enumerate() {
         let Ok(1) = input.read(&mut one) else {
             return n;
         };
-        s[n] = one[0];
-        n += 1;
-        if one[0] == b'\n' {
-            return n;
+        *x = one[0];
+        if *x == b'\n' {
+            return n + 1;
         }
     }
-    n
+    s.len()
 }
 
 // Fifty-five bytes decide a line. What is written for it stands in the program's own buffer; where it cannot be written, one line to standard error says so.
