@@ -5,7 +5,6 @@
 
 ghost use Rattle.std.specs.Prelude.{◌≡◌, ℕ, ◌*◌, ◌/◌, ◌^◌, ◌≤◌, ◌<◌};
 ghost use Rattle.instants.specs.Limits.{day_micros};
-ghost use Rattle.instants.specs.Moments.{latest};
 ghost use Rattle.rows.specs.Table.{largest};
 ghost use Rattle.rows.specs.declared.Place.TheVariants.{End, Between};
 ghost use Rattle.rows.specs.Inner.{AcceptedRow, Placed};
@@ -14,7 +13,7 @@ ghost use Rattle.nutation.specs.Exact.{round_up, uncertainty_at};
 ghost use Rattle.nutation.specs.Ours.{our_angle, mixed, offset, offsets_at, nutation_with, nutation_of, nutation_rows_of};
 ghost use Rattle.nutation.specs.Inner.{amplitudes, OnTheWay, MixBounds, OffsetBounds, twice_between};
 
-use instants::{DAY_MICROS, Instant, Refusal};
+use instants::{DAY_MICROS, Instant, Moment, Refusal};
 use row_bytes::Table;
 use rows::{Place, Row};
 use sine::TURN;
@@ -93,11 +92,10 @@ fn amplitudes_at(p: Place, x: u64) -> Amplitudes
 
 // The angle of the free core nutation, in units of 2^-41 turn.
 #[tactic(auto, unfolding(crate::specs::Ours::our_angle))]
-fn angle_at(x: u64) -> u64
-    requires { x ≤ latest }
-    ensures { result ≡ our_angle x }
+fn angle_at(at: Moment) -> u64
+    ensures { result ≡ our_angle at }
 {
-    (START_ANGLE - arguments::high(x, ANGLE_RATE)) % TURN
+    (START_ANGLE - arguments::high(at.micros(), ANGLE_RATE)) % TURN
 }
 
 // Ten times c cos - s sin, which is in units of 2^-41, to the nearest whole nanoarcsecond.
@@ -117,12 +115,11 @@ fn round_up(n: u64, d: u64) -> u64
 }
 
 // Twice u at or outside an end, rounded up: 26.5 hundredths of a microarcsecond are 265 nanoarcseconds.
-fn uncertainty_end(r: Row, x: u64) -> u64
-    requires row { AcceptedRow r }
-    requires covered { x ≤ latest }
-    ensures { result ≡ uncertainty_at (End r) x }
+fn uncertainty_end(r: Row, at: Moment) -> u64
+    requires { AcceptedRow r }
+    ensures { result ≡ uncertainty_at (End r) at }
 {
-    20 * r.uncertainty + round_up(265 * x.abs_diff(r.moment()), DAY_MICROS)
+    20 * r.uncertainty + round_up(265 * at.micros().abs_diff(r.moment()), DAY_MICROS)
 }
 
 // Twice what is between u and v, which are `days` apart, `after` microseconds after u, rounded up: whole days and the rest of a day apart, since the
@@ -148,31 +145,29 @@ fn uncertainty_between(a: Row, b: Row, x: u64) -> u64
 }
 
 // The uncertainty at a place, by its two kinds.
-fn uncertainty_of(p: Place, x: u64) -> u64
-    requires placed { Placed p x }
-    requires covered { x ≤ latest }
-    ensures { result ≡ uncertainty_at p x }
+fn uncertainty_of(p: Place, at: Moment) -> u64
+    requires { Placed p at }
+    ensures { result ≡ uncertainty_at p at }
 {
     match p {
-        Place::End(r) => uncertainty_end(r, x),
-        Place::Between(a, b) => uncertainty_between(a, b, x),
+        Place::End(r) => uncertainty_end(r, at),
+        Place::Between(a, b) => uncertainty_between(a, b, at.micros()),
     }
 }
 
 // The offsets and the uncertainty at a place. YC is XS, and YS is -XC.
-fn offsets_of(p: Place, x: u64) -> Offsets
-    requires placed { Placed p x }
-    requires covered { x ≤ latest }
-    ensures { result ≡ offsets_at p x }
+fn offsets_of(p: Place, at: Moment) -> Offsets
+    requires { Placed p at }
+    ensures { result ≡ offsets_at p at }
 {
-    let a = amplitudes_at(p, x);
-    let b = angle_at(x);
+    let a = amplitudes_at(p, at.micros());
+    let b = angle_at(at);
     let cos = sine::cosine(b);
     let sin = sine::sine(b);
     Offsets {
         x: offset_of(a.xc, a.xs, cos, sin),
         y: offset_of(a.xs, -a.xc, cos, sin),
-        uncertainty: uncertainty_of(p, x),
+        uncertainty: uncertainty_of(p, at),
     }
 }
 
@@ -180,9 +175,8 @@ fn offsets_of(p: Place, x: u64) -> Offsets
 fn nutation_with(t: Table, at: Instant) -> Result<Offsets, Refusal>
     ensures { result ≡ nutation_with (table_in t.entry.bytes.now) at.day at.micros }
 {
-    at.accept()?;
-    let x = at.moment();
-    Ok(offsets_of(row_places::place_at(t, x), x))
+    let moment = at.accepted()?;
+    Ok(offsets_of(row_places::place_at(t, moment.micros()), moment))
 }
 
 // With the built-in rows.

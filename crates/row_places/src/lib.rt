@@ -124,8 +124,8 @@ pub fn place_at(t: Table, x: u64) -> Place
 fn probes_with(t: Table, at: Instant) -> Result<u64, Refusal>
     ensures { result ≡ probes_answer (table_in t.entry.bytes.now) at.day at.micros }
 {
-    at.accept()?;
-    Ok(lookup(t, at.moment()).probes)
+    let moment = at.accepted()?;
+    Ok(lookup(t, moment.micros()).probes)
 }
 
 // The probes at an instant with the built-in rows, or refusal 8 or 9.

@@ -55,42 +55,42 @@ angle_is x b e = N.mod-eq_of_lt (N.lt_of_le_of_lt (N.le_of_eq e) (angle_less x))
 pub offset_of-requires : goal.offset_of-requires
 unfolding amplitudes
 offset_of-requires c =
-    let b = angle_is c.args.x c.angle_at-b.result c.angle_at-b.ensures in
+    let b = angle_is c.args.at c.angle_at-b.result c.angle_at-b.ensures in
     let xc = ap (λ (q : Amplitudes). q.xc) c.amplitudes_at-a.ensures in
     let xs = ap (λ (q : Amplitudes). q.xs) c.amplitudes_at-a.ensures in
     let cos = c.cosine-cos.ensures ∙ ap our_cosine b in
     let sin = c.sine-sin.ensures ∙ ap our_sine b in
-    let h = x_bounds c.args.p c.args.x c.requires.placed in
+    let h = x_bounds c.args.p c.args.at c.requires in
     rw (xc, xs, cos, sin) (search rules)
 
 pub overflow_sub-a : goal.overflow_sub-a
 unfolding amplitudes
 overflow_sub-a c =
     let xc = ap (λ (q : Amplitudes). q.xc) c.amplitudes_at-a.ensures in
-    let h = minus_fits (our_Xc c.args.p c.args.x) (xc_small c.args.p c.args.x c.requires.placed) in
+    let h = minus_fits (our_Xc c.args.p c.args.at) (xc_small c.args.p c.args.at c.requires) in
     rw xc (search rules)
 
 pub offset_of-requires-2 : goal.offset_of-requires-2
 unfolding amplitudes
 offset_of-requires-2 c =
-    let b = angle_is c.args.x c.angle_at-b.result c.angle_at-b.ensures in
+    let b = angle_is c.args.at c.angle_at-b.result c.angle_at-b.ensures in
     let xc = ap (λ (q : Amplitudes). q.xc) c.amplitudes_at-a.ensures in
     let xs = ap (λ (q : Amplitudes). q.xs) c.amplitudes_at-a.ensures in
     let cos = c.cosine-cos.ensures ∙ ap our_cosine b in
     let sin = c.sine-sin.ensures ∙ ap our_sine b in
-    let ys = ys_is c.args.p c.args.x c.requires.placed in
-    let h = y_bounds c.args.p c.args.x c.requires.placed in
+    let ys = ys_is c.args.p c.args.at c.requires in
+    let h = y_bounds c.args.p c.args.at c.requires in
     rw (xc, xs, cos, sin) (search rules)
 
 pub returns : goal.returns
 unfolding amplitudes offsets_at
 returns c =
-    let b = angle_is c.args.x c.angle_at-b.result c.angle_at-b.ensures in
+    let b = angle_is c.args.at c.angle_at-b.result c.angle_at-b.ensures in
     let xc = ap (λ (q : Amplitudes). q.xc) c.amplitudes_at-a.ensures in
     let xs = ap (λ (q : Amplitudes). q.xs) c.amplitudes_at-a.ensures in
     let cos = c.cosine-cos.ensures ∙ ap our_cosine b in
     let sin = c.sine-sin.ensures ∙ ap our_sine b in
-    let ys = ys_is c.args.p c.args.x c.requires.placed in
+    let ys = ys_is c.args.p c.args.at c.requires in
     let x = c.offset_of.ensures in
     let y = c.offset_of-2.ensures in
     let u = c.uncertainty_of.ensures in
