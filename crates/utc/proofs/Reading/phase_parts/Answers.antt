@@ -1,5 +1,5 @@
 -- A reading is refused by the same cases as its time, and both parts of an accepted one are of that time.
-use Rattle.std.proofs.Common.{◌≡◌, refl, ◌∙◌, ap, sym, rules}
+use Rattle.std.proofs.Common.{◌≡◌, refl, ◌∙◌, ap, sym, arith, rules}
 use Rattle.std.proofs.lemmas.Result.{err_from_is_err_and}
 use Rattle.instants.specs.declared.Instant.{Instant}
 use Rattle.instants.proofs.FirstRefusal.{handed_on}
@@ -37,7 +37,7 @@ tt-requires-clause-index c =
 pub tt-requires-clause-micros : goal.tt-requires-clause-micros
 tt-requires-clause-micros c =
     let e : c.accept.result ≡ Ok c.in_ok-utc.utc = search rules in
-    (accepted_small _ _ (sym c.accept.ensures ∙ e)).1
+    omega (arith, (accepted_small _ _ (sym c.accept.ensures ∙ e)).1)
 
 pub returns-in_err-utc : goal.returns-in_err-utc
 returns-in_err-utc c =
