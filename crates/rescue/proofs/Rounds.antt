@@ -11,7 +11,7 @@ use lib.ListN.{length, take, drop, length-append}
 use Rattle.std.specs.Int.{from_bool}
 use Rattle.bigendian.specs.Buffers.{at_front}
 use Rattle.bigendian.proofs.Buffers.{front_copy}
-use Rattle.bigendian.proofs.Filling.{Filling, filling_none, filling_sum, filling_room, filling_more, filling_all}
+use Rattle.bigendian.proofs.Filling.{Filling, filling_none, filling_room, filling_more, filling_all}
 use Rattle.record.specs.Format.{record_length}
 use Rattle.rescue.specs.Walk.{range, walk_from, ranges_of}
 use Rattle.rescue.specs.declared.Range.{Range}
@@ -105,10 +105,6 @@ module _ {s records₀ list₀ records list : List ℕ} {i kept listed : ℕ} (w
   pub list_room_lem : entry_length * length (range_to i j) ≤ length (take (length list - listed) (drop listed list))
   list_room_lem = omega (arith, filling_room w.lists (list_bytes (range_to i j)) (list_bytes (ranges_of (walk_from s j).passed)) list_hop, list_length (range_to i j))
 
-  pub list_most : (b : ℕ) → b ≡ entry_length * length (range_to i j) → listed + b ≤ length s + 30
-  list_most b e =
-      omega (arith, e, filling_sum w.lists, ap length list_hop, length-append (list_bytes (range_to i j)) (list_bytes (ranges_of (walk_from s j).passed)), list_length (range_to i j), list_length (ranges_in s), ranges_few s)
-
 -- and the records of the chain behind it
 module _ {s records₀ list₀ records list : List ℕ} {i kept listed j e : ℕ} (w : Written s records₀ list₀ records list i kept listed) (t : Turned s i j e) where
   -- the bytes that are lent for them
@@ -128,9 +124,6 @@ module _ {s records₀ list₀ records list : List ℕ} {i kept listed j e : ℕ
 
   pub records_room_lem : length part ≤ length (take (length records - kept) (drop kept records))
   records_room_lem = filling_room w.keeps part (records_at s (walk_from s e).kept) records_turn
-
-  pub records_most : kept + length part ≤ length s
-  records_most = omega (arith, filling_sum w.keeps, ap length records_turn, length-append part (records_at s (walk_from s e).kept), kept_length s, kept_few s)
 
   pub written_more : (a b : ℕ) (xs ys : List ℕ)
       → a ≡ length part → xs ≡ take (length part) part ++ drop (length part) (take (length records - kept) (drop kept records))
