@@ -102,9 +102,6 @@ module _ {d : ℤ} {m count step : ℕ} {old s : List ℕ} {k : ℕ} (f : Filled
   long : length (run_bytes d m step k) ≡ at
   long = run_length d m step k
 
-  pub filled_length : length s ≡ length old
-  filled_length = ap length f.bytes ∙ front_length (run_bytes d m step k) old (omega (arith, long, f.room, f.most))
-
   front : take at s ≡ run_bytes d m step k
   front = rw f.bytes (front_take (run_bytes d m step k) old at long)
 
