@@ -10,7 +10,9 @@ use lib.Dec.{ltb, eqb}
 use lib.IntN.{pos}
 use lib.Ieee as Ieee
 use lib.Ieee.{Float, add, sub, mul, div, neg, rem, round, lt, le, eq, of_int, to_unsigned}
-use Rattle.instants.specs.Refusals.{case, first_refusal}
+use Rattle.instants.specs.Refusals as named
+use Rattle.instants.specs.Refusals.{number}
+use Rattle.promises.specs.Figures.{first_refusal}
 use Rattle.instants.proofs.FirstRefusal.{Refused, handed_on, first_none, none_answered, refused_first}
 use Rattle.instants.proofs.Accepted.{between}
 use Rattle.calendar.specs.Dates.{leap_year, month_lengths, sum, year_length}
@@ -27,7 +29,7 @@ use Rattle.std.specs.Prelude.{Ok, Err}
 use Rattle.instants.specs.declared.refusal.Refusal.TheVariants.{DayOfYear}
 
 -- ---- demand 1
-pub handed_angles : (y : ℕ) (d : Float) → angles_refusal_of (schwiderski_of y d) ≡ first_refusal (angles_cases y d)
+pub handed_angles : (y : ℕ) (d : Float) → angles_refusal_of (schwiderski_of y d) ≡ named.first_refusal (angles_cases y d)
 unfolding schwiderski_of
 handed_angles y d = handed_on Err angles_refusal_of (λ n. refl) (angles_cases y d) _
 
@@ -54,15 +56,15 @@ ends true = refl
 ends false = refl
 
 pub angles : (y : ℕ) (d : Float) → angles_refusal_of (schwiderski_of y d) ≡ first_refusal (refusal1_angles y ∷ refusal26 y d ∷ [])
-unfolding in_year year_length
+unfolding in_year year_length number
 angles y d = handed_angles y d ∙ by (ltb y 1974 || ltb 2100 y) refl
   where
     by : (p : Bool) → (ltb y 1974 || ltb 2100 y) ≡ p
-        → cond p 1 (first_refusal (case DayOfYear (not (in_year y d)) ∷ [])) ≡ cond p 1 (first_refusal (refusal26 y d ∷ []))
+        → cond p 1 (named.first_refusal (named.case DayOfYear (not (in_year y d)) ∷ [])) ≡ cond p 1 (first_refusal (refusal26 y d ∷ []))
     by true e = refl
     by false e =
         let b = between y 1974 2100 e in
-        ap (λ (n : ℕ). first_refusal (case DayOfYear (not (le (whole (pos 1)) d && lt d (whole (pos n)))) ∷ [])) (ends (leap_year y) ∙ ap (λ (l : Bool). cond l 367 366) (leap_in_figures y b.0 b.1))
+        ap (λ (n : ℕ). named.first_refusal (named.case DayOfYear (not (le (whole (pos 1)) d && lt d (whole (pos n)))) ∷ [])) (ends (leap_year y) ∙ ap (λ (l : Bool). cond l 367 366) (leap_in_figures y b.0 b.1))
 
 module _ (y : ℕ) (d : Float) where
   answered : angles_refusal_of (schwiderski_of y d) ≡ 0 → schwiderski_of y d ≡ Ok (angles_of (y - 1900) d)
@@ -93,9 +95,9 @@ angles_exactly = record {
   published_angles = published;
   published_count = unfold day_count leap_days in (refl, refl);
   days_counted = days_counted;
-  first_days = unfold schwiderski_of in_year year_length sum month_lengths leap_year decimal64 of_int round le lt eq in (refl, refl, refl);
-  last_days = unfold schwiderski_of in_year year_length sum month_lengths leap_year decimal64 of_int round le lt eq in (refl, refl, refl, refl, refl);
-  no_days = unfold schwiderski_of in_year year_length sum month_lengths leap_year of_int round le lt eq in (refl, refl, refl, refl);
+  first_days = unfold number schwiderski_of in_year year_length sum month_lengths leap_year decimal64 of_int round le lt eq in (refl, refl, refl);
+  last_days = unfold number schwiderski_of in_year year_length sum month_lengths leap_year decimal64 of_int round le lt eq in (refl, refl, refl, refl, refl);
+  no_days = unfold number schwiderski_of in_year year_length sum month_lengths leap_year of_int round le lt eq in (refl, refl, refl, refl);
   a_minus_zero = unfold angles_of reduced_each sums angle_sum longitudes centuries day_count leap_days seconds whole_day sun moon perigee degree two_pi decimal64 reduced raised settled
       of_int to_unsigned add sub mul div neg Ieee.sum round rem lt eq in (refl, refl);
 }

@@ -3,10 +3,9 @@
 use mathlib.Core.Path.{◌≡◌, refl, sym, ◌∙◌, ap, subst}
 use Prim.Native.Nat.{ℕ}
 use mathlib.Core.List.{List, ◌++◌}
-use lib.Dec.{T}
 use lib.IntN.{ℤ, pos}
 use lib.Ieee.{Float}
-use Rattle.instants.specs.Refusals.{Case, refused_or, first_refusal}
+use Rattle.instants.specs.Refusals.{Case, refused_or, first_refusal, number}
 use Rattle.instants.specs.Instants.{outside, instant_cases}
 use Rattle.instants.proofs.FirstRefusal.{Refused, handed_on, none_answered, refused_first, first_none}
 use Rattle.calendar.specs.Dates.{date_cases, day_of, day_cases, date_of, day_number_or, date_refusal_of, year_or, month_or, day_of_month_or, day_refusal_of}
@@ -87,9 +86,9 @@ run d m count step n = refl
 -- A number of a service's answer that is what stood there at every refusal, and at the answer a the answer's own. No case has the number 0, so that the
 -- refusal number tells which it is.
 module _ {A : Type 0} (refuse : Refusal → A) (refusal : A → ℕ) (cs : List Case) (a : A) (first : refusal (refused_or refuse cs a) ≡ first_refusal cs) where
-  number : {B : Type 0} (left : B → A → B) (zero : B) → ((n : Refusal) (old : B) → left old (refuse n) ≡ old) → ((old : B) → left old a ≡ left zero a)
+  value : {B : Type 0} (left : B → A → B) (zero : B) → ((n : Refusal) (old : B) → left old (refuse n) ≡ old) → ((old : B) → left old a ≡ left zero a)
       → Number refusal (left zero) left zero (refused_or refuse cs a)
-  number {B} left zero stays gives = record {
+  value {B} left zero stays gives = record {
     same = λ z old.
         let p = none_answered refuse cs a (first_none cs (sym first ∙ z)) in
         ap (left old) p ∙ gives old ∙ sym (ap (left zero) p);
@@ -106,84 +105,84 @@ module _ (r : Reading) (k : Doodson) where
       → Number tide.tide_refusal_of (left zero64) left zero64 (tide.tide_of r k)
   phase_number left stays gives =
       subst (λ (a : (Result Constituent Refusal)). Number tide.tide_refusal_of (left zero64) left zero64 a) (sym (in_full r k))
-      (number Err tide.tide_refusal_of (reading_cases r ++ tide.range_cases k) _ (handed_on Err tide.tide_refusal_of (λ n. refl) (reading_cases r ++ tide.range_cases k) _)
+      (value Err tide.tide_refusal_of (reading_cases r ++ tide.range_cases k) _ (handed_on Err tide.tide_refusal_of (λ n. refl) (reading_cases r ++ tide.range_cases k) _)
       left zero64 stays (gives _))
 
 -- PROMISE. Demand 1: any input is answered.
 pub any_input_is_answered : AnyInputIsAnswered
-unfolding outside day_of date_of instant_of utc.tt_of utc.utc_of split_of join_of zonal.zonal_of nutation.nutation_of nutation.nutation_rows_of read_of kept_count ranges_in
+unfolding number outside day_of date_of instant_of utc.tt_of utc.utc_of split_of join_of zonal.zonal_of nutation.nutation_of nutation.nutation_rows_of read_of kept_count ranges_in
 any_input_is_answered = record {
   date_to_day = date_to_day;
-  date_to_day_numbers = λ y m d. number Err date_refusal_of (date_cases y m d) _ (date_to_day y m d) day_number_or (pos 0) (λ _ _. refl) (λ _. refl);
+  date_to_day_numbers = λ y m d. value Err date_refusal_of (date_cases y m d) _ (date_to_day y m d) day_number_or (pos 0) (λ _ _. refl) (λ _. refl);
   day_to_date = day_to_date;
   day_to_date_numbers = λ z. (
-    number Err day_refusal_of (day_cases z) _ (day_to_date z) year_or 0 (λ _ _. refl) (λ _. refl),
-    number Err day_refusal_of (day_cases z) _ (day_to_date z) month_or 0 (λ _ _. refl) (λ _. refl),
-    number Err day_refusal_of (day_cases z) _ (day_to_date z) day_of_month_or 0 (λ _ _. refl) (λ _. refl),
+    value Err day_refusal_of (day_cases z) _ (day_to_date z) year_or 0 (λ _ _. refl) (λ _. refl),
+    value Err day_refusal_of (day_cases z) _ (day_to_date z) month_or 0 (λ _ _. refl) (λ _. refl),
+    value Err day_refusal_of (day_cases z) _ (day_to_date z) day_of_month_or 0 (λ _ _. refl) (λ _. refl),
   );
   date_and_time = date_and_time;
   date_and_time_numbers = λ y m d h n s u. (
-    number Err instant_refusal_of (date_cases y m d ++ time_cases 59 h n s u) _ (date_and_time y m d h n s u) instant_day_or (pos 0) (λ _ _. refl) (λ _. refl),
-    number Err instant_refusal_of (date_cases y m d ++ time_cases 59 h n s u) _ (date_and_time y m d h n s u) instant_micros_or 0 (λ _ _. refl) (λ _. refl),
+    value Err instant_refusal_of (date_cases y m d ++ time_cases 59 h n s u) _ (date_and_time y m d h n s u) instant_day_or (pos 0) (λ _ _. refl) (λ _. refl),
+    value Err instant_refusal_of (date_cases y m d ++ time_cases 59 h n s u) _ (date_and_time y m d h n s u) instant_micros_or 0 (λ _ _. refl) (λ _. refl),
   );
   split = split;
   split_numbers = λ d m. (
-    number Err split_refusal_of (instant_cases d m) _ (split d m) day_word_or (pos 0) (λ _ _. refl) (λ _. refl),
-    number Err split_refusal_of (instant_cases d m) _ (split d m) time_word_or 0 (λ _ _. refl) (λ _. refl),
+    value Err split_refusal_of (instant_cases d m) _ (split d m) day_word_or (pos 0) (λ _ _. refl) (λ _. refl),
+    value Err split_refusal_of (instant_cases d m) _ (split d m) time_word_or 0 (λ _ _. refl) (λ _. refl),
   );
   join = join;
   join_numbers = λ d t. (
-    number Err join_refusal_of (join_cases d t) _ (join d t) joined_day_or (pos 0) (λ _ _. refl) (λ _. refl),
-    number Err join_refusal_of (join_cases d t) _ (join d t) joined_micros_or 0 (λ _ _. refl) (λ _. refl),
+    value Err join_refusal_of (join_cases d t) _ (join d t) joined_day_or (pos 0) (λ _ _. refl) (λ _. refl),
+    value Err join_refusal_of (join_cases d t) _ (join d t) joined_micros_or 0 (λ _ _. refl) (λ _. refl),
   );
   phase = phase;
   phase_numbers = λ r k. (phase_number r k tide.frequency_or (λ _ _. refl) (λ _ _. refl), phase_number r k tide.phase_or (λ _ _. refl) (λ _ _. refl));
   corrections = corrections;
   corrections_numbers = λ d m. (
-    number Err zonal.zonal_refusal_of (instant_cases d m) _ (corrections d m) zonal.ut1_or (pos 0) (λ _ _. refl) (λ _. refl),
-    number Err zonal.zonal_refusal_of (instant_cases d m) _ (corrections d m) zonal.lod_or (pos 0) (λ _ _. refl) (λ _. refl),
-    number Err zonal.zonal_refusal_of (instant_cases d m) _ (corrections d m) zonal.rate_or (pos 0) (λ _ _. refl) (λ _. refl),
+    value Err zonal.zonal_refusal_of (instant_cases d m) _ (corrections d m) zonal.ut1_or (pos 0) (λ _ _. refl) (λ _. refl),
+    value Err zonal.zonal_refusal_of (instant_cases d m) _ (corrections d m) zonal.lod_or (pos 0) (λ _ _. refl) (λ _. refl),
+    value Err zonal.zonal_refusal_of (instant_cases d m) _ (corrections d m) zonal.rate_or (pos 0) (λ _ _. refl) (λ _. refl),
   );
   offsets = offsets;
   offsets_numbers = λ d m. (
-    number Err nutation.nutation_refusal_of (instant_cases d m) _ (offsets d m) nutation.x_or (pos 0) (λ _ _. refl) (λ _. refl),
-    number Err nutation.nutation_refusal_of (instant_cases d m) _ (offsets d m) nutation.y_or (pos 0) (λ _ _. refl) (λ _. refl),
-    number Err nutation.nutation_refusal_of (instant_cases d m) _ (offsets d m) nutation.uncertainty_or 0 (λ _ _. refl) (λ _. refl),
+    value Err nutation.nutation_refusal_of (instant_cases d m) _ (offsets d m) nutation.x_or (pos 0) (λ _ _. refl) (λ _. refl),
+    value Err nutation.nutation_refusal_of (instant_cases d m) _ (offsets d m) nutation.y_or (pos 0) (λ _ _. refl) (λ _. refl),
+    value Err nutation.nutation_refusal_of (instant_cases d m) _ (offsets d m) nutation.uncertainty_or 0 (λ _ _. refl) (λ _. refl),
   );
   probes_zeroed = λ d m h. probes_refused d m (λ z. h (offsets d m ∙ z));
   rows_offsets = rows_offsets;
   rows_probes_zeroed = λ s d m h. rows_probes_refused s d m (λ z. h (handed_rows s d m ∙ z));
   rows_offsets_numbers = λ s d m. (
-    number Err nutation.nutation_refusal_of (bytes_cases s ++ instant_cases d m) _ (handed_rows s d m) nutation.x_or (pos 0) (λ _ _. refl) (λ _. refl),
-    number Err nutation.nutation_refusal_of (bytes_cases s ++ instant_cases d m) _ (handed_rows s d m) nutation.y_or (pos 0) (λ _ _. refl) (λ _. refl),
-    number Err nutation.nutation_refusal_of (bytes_cases s ++ instant_cases d m) _ (handed_rows s d m) nutation.uncertainty_or 0 (λ _ _. refl) (λ _. refl),
+    value Err nutation.nutation_refusal_of (bytes_cases s ++ instant_cases d m) _ (handed_rows s d m) nutation.x_or (pos 0) (λ _ _. refl) (λ _. refl),
+    value Err nutation.nutation_refusal_of (bytes_cases s ++ instant_cases d m) _ (handed_rows s d m) nutation.y_or (pos 0) (λ _ _. refl) (λ _. refl),
+    value Err nutation.nutation_refusal_of (bytes_cases s ++ instant_cases d m) _ (handed_rows s d m) nutation.uncertainty_or 0 (λ _ _. refl) (λ _. refl),
   );
   record_write = write;
   record_write_keeps = kept.refused_unchanged;
   record_read = read;
   record_read_numbers = λ s. (
-    number Err read_refusal_of (read_cases s) _ (read s) record_day_or (pos 0) (λ _ _. refl) (λ _. refl),
-    number Err read_refusal_of (read_cases s) _ (read s) record_micros_or 0 (λ _ _. refl) (λ _. refl),
-    number Err read_refusal_of (read_cases s) _ (read s) record_ut1_or (pos 0) (λ _ _. refl) (λ _. refl),
-    number Err read_refusal_of (read_cases s) _ (read s) record_lod_or (pos 0) (λ _ _. refl) (λ _. refl),
-    number Err read_refusal_of (read_cases s) _ (read s) record_rate_or (pos 0) (λ _ _. refl) (λ _. refl),
+    value Err read_refusal_of (read_cases s) _ (read s) record_day_or (pos 0) (λ _ _. refl) (λ _. refl),
+    value Err read_refusal_of (read_cases s) _ (read s) record_micros_or 0 (λ _ _. refl) (λ _. refl),
+    value Err read_refusal_of (read_cases s) _ (read s) record_ut1_or (pos 0) (λ _ _. refl) (λ _. refl),
+    value Err read_refusal_of (read_cases s) _ (read s) record_lod_or (pos 0) (λ _ _. refl) (λ _. refl),
+    value Err read_refusal_of (read_cases s) _ (read s) record_rate_or (pos 0) (λ _ _. refl) (λ _. refl),
   );
   run_write = run;
   run_write_keeps = records.refused_unchanged;
   utc_to_tt = utc_to_tt;
   utc_to_tt_numbers = λ r. (
-    number Err instant_refusal_of (reading_cases r) _ (handed_readings r) instant_day_or (pos 0) (λ _ _. refl) (λ _. refl),
-    number Err instant_refusal_of (reading_cases r) _ (handed_readings r) instant_micros_or 0 (λ _ _. refl) (λ _. refl),
+    value Err instant_refusal_of (reading_cases r) _ (handed_readings r) instant_day_or (pos 0) (λ _ _. refl) (λ _. refl),
+    value Err instant_refusal_of (reading_cases r) _ (handed_readings r) instant_micros_or 0 (λ _ _. refl) (λ _. refl),
   );
   tt_to_utc = tt_to_utc;
   tt_to_utc_numbers = λ d m. (
-    number Err utc.reading_refusal_of (instant_cases d m ++ utc.moment_cases (moment_of d m)) _ (handed_instants d m) utc.reading_year_or 0 (λ _ _. refl) (λ _. refl),
-    number Err utc.reading_refusal_of (instant_cases d m ++ utc.moment_cases (moment_of d m)) _ (handed_instants d m) utc.reading_month_or 0 (λ _ _. refl) (λ _. refl),
-    number Err utc.reading_refusal_of (instant_cases d m ++ utc.moment_cases (moment_of d m)) _ (handed_instants d m) utc.reading_day_or 0 (λ _ _. refl) (λ _. refl),
-    number Err utc.reading_refusal_of (instant_cases d m ++ utc.moment_cases (moment_of d m)) _ (handed_instants d m) utc.reading_hour_or 0 (λ _ _. refl) (λ _. refl),
-    number Err utc.reading_refusal_of (instant_cases d m ++ utc.moment_cases (moment_of d m)) _ (handed_instants d m) utc.reading_minute_or 0 (λ _ _. refl) (λ _. refl),
-    number Err utc.reading_refusal_of (instant_cases d m ++ utc.moment_cases (moment_of d m)) _ (handed_instants d m) utc.reading_second_or 0 (λ _ _. refl) (λ _. refl),
-    number Err utc.reading_refusal_of (instant_cases d m ++ utc.moment_cases (moment_of d m)) _ (handed_instants d m) utc.reading_microsecond_or 0 (λ _ _. refl) (λ _. refl),
+    value Err utc.reading_refusal_of (instant_cases d m ++ utc.moment_cases (moment_of d m)) _ (handed_instants d m) utc.reading_year_or 0 (λ _ _. refl) (λ _. refl),
+    value Err utc.reading_refusal_of (instant_cases d m ++ utc.moment_cases (moment_of d m)) _ (handed_instants d m) utc.reading_month_or 0 (λ _ _. refl) (λ _. refl),
+    value Err utc.reading_refusal_of (instant_cases d m ++ utc.moment_cases (moment_of d m)) _ (handed_instants d m) utc.reading_day_or 0 (λ _ _. refl) (λ _. refl),
+    value Err utc.reading_refusal_of (instant_cases d m ++ utc.moment_cases (moment_of d m)) _ (handed_instants d m) utc.reading_hour_or 0 (λ _ _. refl) (λ _. refl),
+    value Err utc.reading_refusal_of (instant_cases d m ++ utc.moment_cases (moment_of d m)) _ (handed_instants d m) utc.reading_minute_or 0 (λ _ _. refl) (λ _. refl),
+    value Err utc.reading_refusal_of (instant_cases d m ++ utc.moment_cases (moment_of d m)) _ (handed_instants d m) utc.reading_second_or 0 (λ _ _. refl) (λ _. refl),
+    value Err utc.reading_refusal_of (instant_cases d m ++ utc.moment_cases (moment_of d m)) _ (handed_instants d m) utc.reading_microsecond_or 0 (λ _ _. refl) (λ _. refl),
   );
   rescue = rescue_refusal;
   rescue_zeroed = rescue_zeroed;

@@ -2,29 +2,32 @@
 -- Assumes nothing.
 use Prim.Native.Nat.{ℕ, zero, suc, ◌+◌, ◌-◌, ◌*◌, ◌/◌}
 use mathlib.Core.Path.{◌≡◌, refl, ap, ap₂, sym, ◌∙◌}
-use mathlib.Core.Bool.{Bool, true, false, not, ◌&&◌, ◌||◌, true≢false}
+use mathlib.Core.Bool.{Bool, true, false, cond, not, ◌&&◌, ◌||◌, true≢false}
 use mathlib.Core.List.{List, [], ◌∷◌, ◌++◌, append_assoc}
 use native.Mathlib.Omega.{arith}
 use lib.Dec.{eqb, ltb}
 use lib.ListN.{length, drop}
 use lib.Seq.{drop-drop}
 use borrow.Author.Tests.{ne_eqb}
-use Rattle.instants.specs.Refusals.{Case, case, first_refusal}
-use Rattle.instants.proofs.FirstRefusal.{NoneApplies, first_behind}
+use Rattle.instants.specs.Refusals as named
+use Rattle.instants.specs.Refusals.{number}
+use Rattle.instants.proofs.FirstRefusal.{NoneApplies, number_positive}
+use Rattle.promises.specs.Figures.{Case, case, first_refusal}
+use Rattle.promises.proofs.Figures.{figures, in_figures}
 use Rattle.record.specs.Format.{record_length}
-use Rattle.record.specs.Records.{read_of, is_record, read_refusal_of}
-use Rattle.record.proofs.Unrefused.{refusal_numbered, read_accepted}
+use Rattle.record.specs.Records.{read_of, read_refusal_of}
+use Rattle.record.proofs.Unrefused.{read_accepted}
 use Rattle.files.specs.Files.{answers, answers_in, records_among, when, rises, length_cases, reading_cases, order_cases, file_cases}
 use Rattle.rows.specs.Table.{some_below}
 use Rattle.rows.proofs.Accepted.{some_same}
 use Rattle.instants.proofs.Order.{moment_order}
-use Rattle.compare.specs.Compare.{entries_of, compare_of, compare_refusal_of}
+use Rattle.compare.specs.Compare.{entry_length, entries_of, compare_of, compare_refusal_of}
 use Rattle.compare.proofs.Promises.{compare_refusal}
 use Rattle.promises.specs.AnyInput.{refusal12, cases_below, read_at, record_refusals, not_before, refusal28, file_refusals}
 use Rattle.std.specs.Prelude.{Result, Ok, Err}
 use Rattle.record.specs.declared.Record.{Record}
 use Rattle.instants.specs.declared.refusal.Refusal.{Refusal}
-use Rattle.instants.specs.declared.refusal.Refusal.TheVariants.{FileOrder}
+use Rattle.instants.specs.declared.refusal.Refusal.TheVariants.{BufferShort}
 
 -- ---- by place
 
@@ -50,22 +53,31 @@ cases_same (suc n) f g h = ap₂ (λ (c : Case) (cs : List Case). c ∷ cs) (h 0
 
 -- ---- reading
 
+positive : (r : Refusal) → number r ≡ 0 → ⊥
+positive r e = omega (arith, number_positive r)
+
 -- the case of an answer, by its refusal number
 abbrev case_of : Result Record Refusal → Case
 case_of a = case (read_refusal_of a) (not (eqb (read_refusal_of a) 0))
 
-read_case : (s : List ℕ) → case (read_refusal_of (read_of s)) (not (is_record (read_of s))) ≡ case_of (read_of s)
-read_case s = by (read_of s) refl
+-- an answer that is a record has no case; another has one that applies
+reading : (n : ℕ) (s : List ℕ) (es : List Case) → first_refusal (figures (reading_cases (answers n s)) ++ es) ≡ first_refusal (cases_below n (λ k. case_of (read_at s k)) ++ es)
+reading zero s es = refl
+reading (suc n) s es =
+    by (read_of s)
+    (reading n (drop record_length s) es
+    ∙ ap (λ (cs : List Case). first_refusal (cs ++ es)) (cases_same n (λ k. case_of (read_at (drop 30 s) k)) (λ k. case_of (read_at s (suc k))) (λ k. ap case_of (sym (next_read s k)))))
   where
-    by : (a : (Result Record Refusal)) → read_of s ≡ a → case (read_refusal_of a) (not (is_record a)) ≡ case_of a
-    by (Ok r) e = refl
-    by (Err n) e = ap (λ (b : Bool). case n (not b)) (sym (ne_eqb n 0 (refusal_numbered s n e)))
+    rest : List Case
+    rest = cases_below n (λ k. case_of (read_at s (suc k)))
 
-reading : (n : ℕ) (s : List ℕ) → reading_cases (answers n s) ≡ cases_below n (λ k. case_of (read_at s k))
-reading zero s = refl
-reading (suc n) s =
-    ap₂ (λ (c : Case) (cs : List Case). c ∷ cs) (read_case s)
-    (reading n (drop record_length s) ∙ cases_same n (λ k. case_of (read_at (drop 30 s) k)) (λ k. case_of (read_at s (suc k))) (λ k. ap case_of (sym (next_read s k))))
+    by : (a : Result Record Refusal)
+        → first_refusal (figures (reading_cases (answers n (drop record_length s))) ++ es) ≡ first_refusal (rest ++ es)
+        → first_refusal (figures (reading_cases (a ∷ answers n (drop record_length s))) ++ es) ≡ first_refusal (case_of a ∷ (rest ++ es))
+    by (Ok r) h = h
+    by (Err m) h =
+        let p : not (eqb (number m) 0) ≡ true = ap not (ne_eqb (number m) 0 (λ e. positive m e)) in
+        ap (λ (b : Bool). cond b (number m) (first_refusal (rest ++ es))) (sym p)
 
 -- ---- the order
 
@@ -101,32 +113,33 @@ order (suc (suc n)) s h = by (read_of s) refl (read_of (drop record_length s)) r
     by : (a : (Result Record Refusal)) → read_of s ≡ a → (b : (Result Record Refusal)) → read_of (drop record_length s) ≡ b → NoneApplies (reading_cases (a ∷ b ∷ more))
         → (NoneApplies (reading_cases (b ∷ more)) → not (rises (records_among (b ∷ more))) ≡ some_below (suc n - 1) g) → not (rises (records_among (a ∷ b ∷ more))) ≡ some_below (suc (suc n) - 1) f
     by (Err m) p b q h i = absurd (true≢false h.0)
-    by (Ok r) p (Err m) q h i = absurd (true≢false h.1.0)
+    by (Ok r) p (Err m) q h i = absurd (true≢false h.0)
     by (Ok r) p (Ok u) q h i =
         let o = moment_order r.day r.micros u.day u.micros (read_accepted s r p) (read_accepted (drop record_length s) u q) in
         neither (ltb (when r) (when u)) (rises (u ∷ records_among more))
-        ∙ (ap₂ ◌||◌ (ap not o ∙ sym (ap₂ not_before p q)) (i h.1 ∙ (ap (λ (k : ℕ). some_below k g) (less n) ∙ some_same g (λ k. f (suc k)) n (λ k _. one_on k)))
+        ∙ (ap₂ ◌||◌ (ap not o ∙ sym (ap₂ not_before p q)) (i h ∙ (ap (λ (k : ℕ). some_below k g) (less n) ∙ some_same g (λ k. f (suc k)) n (λ k _. one_on k)))
         ∙ (sym (some_front n f) ∙ ap (λ (k : ℕ). some_below k f) (sym (less (suc n)))))
 
 -- ---- a file
 
-pub file_figures : (s : List ℕ) (more : List Case) → first_refusal (file_cases s ++ more) ≡ first_refusal (file_refusals s ++ more)
-unfolding file_cases answers_in
-file_figures s more =
+pub file_figures : (s : List ℕ) (more : List named.Case) (more' : List Case) → named.first_refusal more ≡ first_refusal more'
+    → named.first_refusal (file_cases s ++ more) ≡ first_refusal (file_refusals s ++ more')
+unfolding file_cases answers_in number
+file_figures s more more' e =
     let n : ℕ = length s / record_length in
-    let R : List Case = reading_cases (answers n s) in
-    let O : List Case = order_cases (records_among (answers n s)) in
-    first_behind (length_cases (length s)) ((R ++ O) ++ more) ((record_refusals s ++ refusal28 s ∷ []) ++ more)
+    let R : List named.Case = reading_cases (answers n s) in
+    let O : List named.Case = order_cases (records_among (answers n s)) in
+    in_figures (length_cases (length s)) ((R ++ O) ++ more) ((record_refusals s ++ refusal28 s ∷ []) ++ more')
     (λ _.
-    ap first_refusal (append_assoc R O more)
-    ∙ (first_behind R (O ++ more) (refusal28 s ∷ more) (λ h. ap (λ (b : Bool). first_refusal (case FileOrder b ∷ more)) (order n s h))
-    ∙ (ap (λ (cs : List Case). first_refusal (cs ++ refusal28 s ∷ more)) (reading n s)
-    ∙ ap first_refusal (sym (append_assoc (record_refusals s) (refusal28 s ∷ []) more)))))
+    ap named.first_refusal (append_assoc R O more)
+    ∙ (in_figures R (O ++ more) (refusal28 s ∷ more') (λ h. ap₂ (λ (b : Bool) (k : ℕ). cond b 28 k) (order n s h) e)
+    ∙ (reading n s (refusal28 s ∷ more') ∙ ap first_refusal (sym (append_assoc (record_refusals s) (refusal28 s ∷ []) more')))))
 
 -- ---- two files
 
 pub compare : (s t : List ℕ) (n : ℕ) → compare_refusal_of (compare_of s t n) ≡ first_refusal (file_refusals s ++ (file_refusals t ++ refusal12 n (37 * length (entries_of s t)) ∷ []))
+unfolding number
 compare s t n =
-    let room : List Case = refusal12 n (37 * length (entries_of s t)) ∷ [] in
-    compare_refusal s t n
-    ∙ (file_figures s (file_cases t ++ room) ∙ first_behind (file_refusals s) (file_cases t ++ room) (file_refusals t ++ room) (λ _. file_figures t room))
+    let room : List named.Case = named.case BufferShort (ltb n (entry_length * length (entries_of s t))) ∷ [] in
+    let room' : List Case = refusal12 n (37 * length (entries_of s t)) ∷ [] in
+    compare_refusal s t n ∙ file_figures s (file_cases t ++ room) (file_refusals t ++ room') (file_figures t room room' refl)

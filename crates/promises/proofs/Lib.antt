@@ -1,5 +1,6 @@
 -- AnyInput, Exactness, Distance: a proof of each demand, from the theorems of the services; Rescued, Angles and Compared are the parts of Exactness on
--- services (i), (j) and (k). Utc, Rows, Angles and Files: refusals in the figures of AnyInput.
+-- services (i), (j) and (k). Figures, Utc, Rows, Angles and Files: refusals in the figures of AnyInput.
+pub mod Figures
 pub mod Utc
 pub mod Rows
 pub mod Angles

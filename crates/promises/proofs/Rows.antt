@@ -15,7 +15,10 @@ use borrow.Author.Tests.{ltb-false, leb-true, eqb-true, not-false, lt-ltb, le-lt
 use Rattle.bigendian.specs.Numbers.{number_at, signed_of}
 use Rattle.bigendian.specs.Fields.{field_at}
 use Rattle.bigendian.proofs.Numbers.{number_drop}
-use Rattle.instants.specs.Refusals.{Case, case, first_refusal}
+use Rattle.instants.specs.Refusals as named
+use Rattle.instants.specs.Refusals.{number}
+use Rattle.promises.specs.Figures.{case, first_refusal}
+use Rattle.promises.proofs.Figures as figure
 use Rattle.instants.specs.Instants.{instant_cases}
 use Rattle.instants.proofs.Accepted.{both_false}
 use Rattle.instants.proofs.FirstRefusal.{handed_on}
@@ -28,7 +31,7 @@ use Rattle.row_bytes.proofs.Reading.{table_count, table_at}
 use Rattle.nutation.specs.Ours.{nutation_rows_of, nutation_refusal_of}
 use Rattle.promises.specs.AnyInput.{table_length, table_rows, table_day, table_Xc, table_Xs, table_uncertainty, beyond, refusal21, refusal22, refusal23, refusal24}
 use Rattle.std.specs.Prelude.{Err}
-use Rattle.instants.specs.declared.refusal.Refusal.TheVariants.{RowsVersion, RowsDay, RowsSize}
+use Rattle.instants.specs.declared.refusal.Refusal.TheVariants.{RowsVersion}
 
 -- ---- the length
 
@@ -144,23 +147,21 @@ numbers s =
 
 -- ---- all of them
 
-versions : (s : List ℕ) → case RowsVersion (not (eqb (field_at s version_field) version)) ≡ refusal22 s
-versions s = refl
-
-figures : (s : List ℕ) (d : ℤ) (m : ℕ) → first_refusal (bytes_cases s ++ instant_cases d m) ≡ first_refusal (refusal21 s ∷ refusal22 s ∷ refusal23 s ∷ refusal24 s ∷ instant_cases d m)
+figures : (s : List ℕ) (d : ℤ) (m : ℕ) → named.first_refusal (bytes_cases s ++ instant_cases d m)
+    ≡ first_refusal (refusal21 s ∷ refusal22 s ∷ refusal23 s ∷ refusal24 s ∷ figure.figures (instant_cases d m))
+unfolding number
 figures s d m =
     let n : ℕ = length s in
     let a : Bool = ltb n 3 in
     let b : Bool = not (eqb (number_at s 0 2) n) in
-    let behind : ℕ = first_refusal (case RowsVersion (not (eqb (field_at s version_field) version)) ∷ table_cases (table_in s) ++ instant_cases d m) in
+    let behind : ℕ = named.first_refusal (named.case RowsVersion (not (eqb (field_at s version_field) version)) ∷ table_cases (table_in s) ++ instant_cases d m) in
     five a b (ltb (row_count n) 2) (ltb 200 (row_count n)) (not (eqb n (form_length (row_count n)))) 21 behind
     ∙ ap (λ (t : Bool). cond (a || (b || t)) 21 behind) (lengths n)
-    ∙ ap (λ (c : Case). first_refusal (refusal21 s ∷ c ∷ table_cases (table_in s) ++ instant_cases d m)) (versions s)
-    ∙ ap₂ (λ (x y : Bool). first_refusal (refusal21 s ∷ refusal22 s ∷ case RowsDay x ∷ case RowsSize y ∷ instant_cases d m)) (days s) (numbers s)
+    ∙ ap₂ (λ (x y : Bool). first_refusal (refusal21 s ∷ refusal22 s ∷ case 23 x ∷ case 24 y ∷ figure.figures (instant_cases d m))) (days s) (numbers s)
 
-pub handed_rows : (s : List ℕ) (d : ℤ) (m : ℕ) → nutation_refusal_of (nutation_rows_of s d m) ≡ first_refusal (bytes_cases s ++ instant_cases d m)
+pub handed_rows : (s : List ℕ) (d : ℤ) (m : ℕ) → nutation_refusal_of (nutation_rows_of s d m) ≡ named.first_refusal (bytes_cases s ++ instant_cases d m)
 unfolding nutation_rows_of
 handed_rows s d m = handed_on Err nutation_refusal_of (λ n. refl) (bytes_cases s ++ instant_cases d m) _
 
-pub rows_offsets : (s : List ℕ) (d : ℤ) (m : ℕ) → nutation_refusal_of (nutation_rows_of s d m) ≡ first_refusal (refusal21 s ∷ refusal22 s ∷ refusal23 s ∷ refusal24 s ∷ instant_cases d m)
+pub rows_offsets : (s : List ℕ) (d : ℤ) (m : ℕ) → nutation_refusal_of (nutation_rows_of s d m) ≡ first_refusal (refusal21 s ∷ refusal22 s ∷ refusal23 s ∷ refusal24 s ∷ figure.figures (instant_cases d m))
 rows_offsets s d m = handed_rows s d m ∙ figures s d m

@@ -9,10 +9,13 @@ use native.Mathlib.Decide.{dec_le}
 use lib.Dec.{T, ltb, leb}
 use lib.IntN.{ℤ, pos}
 use borrow.Author.Tests.{lt-ltb, le-ltb, le-leb, lt-leb}
-use Rattle.instants.specs.Refusals.{Case, first_refusal}
+use Rattle.instants.specs.Refusals as named
+use Rattle.instants.specs.Refusals.{number}
+use Rattle.promises.specs.Figures.{Case, first_refusal}
+use Rattle.promises.proofs.Figures as figure
 use Rattle.instants.specs.Instants.{outside, day_index, instant_cases, IsAccepted}
 use Rattle.instants.specs.Moments.{moment_of}
-use Rattle.instants.proofs.FirstRefusal.{handed_on, first_behind}
+use Rattle.instants.proofs.FirstRefusal.{handed_on}
 use Rattle.instants.proofs.Accepted.{AcceptedAt, none_accepted, accepted}
 use Rattle.instants.proofs.Order.{moment_order}
 use Rattle.calendar.specs.Dates.{date, leap_year, month_lengths, sum, month_length, year_length, days_of_years, days_before, date_index, date_cases}
@@ -58,7 +61,7 @@ expiry_valid = record { late = omega arith; one = omega arith; twelve = omega ar
 
 module _ (r : Reading) where
   -- what is behind the date's cases: of the definition, and in figures
-  abbrev ours : List Case
+  abbrev ours : List named.Case
   ours = time_cases (last_second (reading_index r) r.hour r.minute) r.hour r.minute r.second r.microsecond ++ cover_cases (reading_index r)
 
   abbrev figures : List Case
@@ -67,24 +70,26 @@ module _ (r : Reading) where
       ∷ refusal19_utc r.year r.month r.day ∷ refusal20_utc r.year r.month r.day ∷ []
 
   -- whatever stands behind both
-  behind : Valid (date r.year r.month r.day) → (es : List Case) → first_refusal (ours ++ es) ≡ first_refusal (figures ++ es)
-  unfolding first_step
-  behind v es = rw (has_second_60 days_with_second60 eves _ v, earlier_index _ first_step.from v first_valid, turned (date_index expiry) (reading_index r), earlier_index _ expiry v expiry_valid) refl
+  behind : Valid (date r.year r.month r.day) → (es : List named.Case) (fs : List Case) → named.first_refusal es ≡ first_refusal fs
+      → named.first_refusal (ours ++ es) ≡ first_refusal (figures ++ fs)
+  unfolding first_step number
+  behind v es fs e = rw (e, has_second_60 days_with_second60 eves _ v, earlier_index _ first_step.from v first_valid, turned (date_index expiry) (reading_index r), earlier_index _ expiry v expiry_valid) refl
 
-  in_figures : (es : List Case) → first_refusal (reading_cases r ++ es) ≡ first_refusal (reading_refusals r ++ es)
-  in_figures es = first_behind (date_cases r.year r.month r.day) (ours ++ es) (figures ++ es) (λ n. behind (valid _ _ _ (none_date _ _ _ n)) es)
+  in_figures : (es : List named.Case) (fs : List Case) → named.first_refusal es ≡ first_refusal fs → named.first_refusal (reading_cases r ++ es) ≡ first_refusal (reading_refusals r ++ fs)
+  unfolding number
+  in_figures es fs e = figure.in_figures (date_cases r.year r.month r.day) (ours ++ es) (figures ++ fs) (λ n. behind (valid _ _ _ (none_date _ _ _ n)) es fs e)
 
-  pub handed_readings : instant_refusal_of (tt_of r) ≡ first_refusal (reading_cases r)
+  pub handed_readings : instant_refusal_of (tt_of r) ≡ named.first_refusal (reading_cases r)
   unfolding tt_of
   handed_readings = handed_on Err instant_refusal_of (λ n. refl) (reading_cases r) _
 
   pub utc_to_tt : instant_refusal_of (tt_of r) ≡ first_refusal (reading_refusals r)
-  utc_to_tt = handed_readings ∙ in_figures []
+  utc_to_tt = handed_readings ∙ in_figures [] [] refl
 
   -- a phase
   pub phase : (k : Doodson) → tide_refusal_of (tide_of r k) ≡ first_refusal (reading_refusals r ++ (refusal11 k ∷ []))
-  unfolding all_in_range
-  phase k = ap tide_refusal_of (in_full r k) ∙ handed_on Err tide_refusal_of (λ n. refl) (reading_cases r ++ range_cases k) _ ∙ in_figures (range_cases k)
+  unfolding all_in_range number
+  phase k = ap tide_refusal_of (in_full r k) ∙ handed_on Err tide_refusal_of (λ n. refl) (reading_cases r ++ range_cases k) _ ∙ in_figures (range_cases k) (refusal11 k ∷ []) refl
 
 -- ---- an instant
 
@@ -99,15 +104,16 @@ expiry_accepted = accepted (pos 60854) 69_184_000 refl (omega arith)
 
 module _ (d : ℤ) (m : ℕ) where
   -- what is behind the instant's cases, in figures
-  covered : AcceptedAt d m (day_index d) → first_refusal (moment_cases (moment_of d m)) ≡ first_refusal (refusal19_tt d m ∷ refusal20_tt d m ∷ [])
-  unfolding day_index
+  covered : AcceptedAt d m (day_index d) → named.first_refusal (moment_cases (moment_of d m)) ≡ first_refusal (refusal19_tt d m ∷ refusal20_tt d m ∷ [])
+  unfolding day_index number
   covered k =
       let a = accepted d m k.inside k.less in
       rw (first_begins, expiry_begins, turned 16_583_140_869_184_000 (moment_of d m), moment_order d m (pos 41317) 42_184_000 a first_accepted, moment_order d m (pos 60854) 69_184_000 a expiry_accepted) refl
 
-  pub handed_instants : reading_refusal_of (utc_of d m) ≡ first_refusal (instant_cases d m ++ moment_cases (moment_of d m))
+  pub handed_instants : reading_refusal_of (utc_of d m) ≡ named.first_refusal (instant_cases d m ++ moment_cases (moment_of d m))
   unfolding utc_of
   handed_instants = handed_on Err reading_refusal_of (λ n. refl) (instant_cases d m ++ moment_cases (moment_of d m)) _
 
-  pub tt_to_utc : reading_refusal_of (utc_of d m) ≡ first_refusal (instant_cases d m ++ (refusal19_tt d m ∷ refusal20_tt d m ∷ []))
-  tt_to_utc = handed_instants ∙ first_behind (instant_cases d m) (moment_cases (moment_of d m)) (refusal19_tt d m ∷ refusal20_tt d m ∷ []) (λ n. covered (none_accepted d m n))
+  pub tt_to_utc : reading_refusal_of (utc_of d m) ≡ first_refusal (figure.figures (instant_cases d m) ++ (refusal19_tt d m ∷ refusal20_tt d m ∷ []))
+  unfolding number
+  tt_to_utc = handed_instants ∙ figure.in_figures (instant_cases d m) (moment_cases (moment_of d m)) (refusal19_tt d m ∷ refusal20_tt d m ∷ []) (λ n. covered (none_accepted d m n))
