@@ -36,7 +36,7 @@ use Rattle.promises.proofs.Files.{compare}
 use Rattle.promises.proofs.Rows.{handed_rows, rows_offsets}
 use Rattle.promises.proofs.Utc.{handed_readings, utc_to_tt, phase, handed_instants, tt_to_utc}
 use Rattle.promises.specs.AnyInput.{Number, AnyInputIsAnswered}
-use Rattle.std.specs.Prelude.{Result, Err}
+use Rattle.std.specs.Prelude.{Result, Ok, Err}
 use Rattle.instants.specs.declared.refusal.Refusal.{Refusal}
 
 -- ---- the refusals

@@ -1,5 +1,4 @@
 -- The first refusal of the definitions and the first by its figures are one: case by case, by induction on the list. Assumes nothing.
-use Prim.Native.Nat.{ℕ}
 use mathlib.Core.Path.{◌≡◌, refl}
 use mathlib.Core.Bool.{Bool, true, false, cond}
 use mathlib.Core.List.{List, [], ◌∷◌, ◌++◌}

@@ -90,24 +90,24 @@ module _ (s : List ℕ) (i : ℕ) (h : i < table_rows s) where
   is = table_at s i h
 
   -- the number k bytes behind
-  number : (k p : ℕ) → head_length + row_length * i + k ≡ p → number_at at k 4 ≡ number_at s p 4
-  number k p e = number_drop (head_length + row_length * i) s k 4 ∙ ap (λ (j : ℕ). number_at s j 4) e
+  number_on : (k p : ℕ) → head_length + row_length * i + k ≡ p → number_at at k 4 ≡ number_at s p 4
+  number_on k p e = number_drop (head_length + row_length * i) s k 4 ∙ ap (λ (j : ℕ). number_at s j 4) e
 
   day_is : (row_at (table_in s) i).day ≡ table_day s i
   unfolding row_in
-  day_is = ap (λ (r : Row). r.day) is ∙ number 0 (3 + 16 * i) (omega arith)
+  day_is = ap (λ (r : Row). r.day) is ∙ number_on 0 (3 + 16 * i) (omega arith)
 
   xc_is : (row_at (table_in s) i).xc ≡ table_Xc s i
   unfolding row_in
-  xc_is = ap (λ (r : Row). r.xc) is ∙ ap (signed_of 4) (number 4 (7 + 16 * i) (omega arith))
+  xc_is = ap (λ (r : Row). r.xc) is ∙ ap (signed_of 4) (number_on 4 (7 + 16 * i) (omega arith))
 
   xs_is : (row_at (table_in s) i).xs ≡ table_Xs s i
   unfolding row_in
-  xs_is = ap (λ (r : Row). r.xs) is ∙ ap (signed_of 4) (number 8 (11 + 16 * i) (omega arith))
+  xs_is = ap (λ (r : Row). r.xs) is ∙ ap (signed_of 4) (number_on 8 (11 + 16 * i) (omega arith))
 
   uncertainty_is : (row_at (table_in s) i).uncertainty ≡ at_least0 (table_uncertainty s i)
   unfolding row_in
-  uncertainty_is = ap (λ (r : Row). r.uncertainty) is ∙ ap (λ (n : ℕ). at_least0 (signed_of 4 n)) (number 12 (15 + 16 * i) (omega arith))
+  uncertainty_is = ap (λ (r : Row). r.uncertainty) is ∙ ap (λ (n : ℕ). at_least0 (signed_of 4 n)) (number_on 12 (15 + 16 * i) (omega arith))
 
 -- ---- the days
 

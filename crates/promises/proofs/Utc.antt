@@ -2,7 +2,7 @@
 -- dates in their order have rising indices, and days with their microseconds rising moments. Assumes nothing.
 use Prim.Native.Nat.{ℕ, ◌≤◌}
 use mathlib.Core.Path.{◌≡◌, refl, ◌∙◌, ap}
-use mathlib.Core.Bool.{not}
+use mathlib.Core.Bool.{Bool, true, false, cond, not, ◌&&◌}
 use mathlib.Core.List.{List, [], ◌∷◌, ◌++◌}
 use native.Mathlib.Omega.{arith}
 use native.Mathlib.Decide.{dec_le}
@@ -33,7 +33,7 @@ use Rattle.utc.proofs.Eves.{has_second_60}
 use Rattle.tide.specs.Tidal.{all_in_range, range_cases, tide_of, tide_refusal_of}
 use Rattle.tide.specs.declared.Doodson.{Doodson}
 use Rattle.tide.proofs.Promises.{in_full}
-use Rattle.promises.specs.AnyInput.{refusal4, refusal5, refusal6_utc, refusal7, refusal11, refusal19_utc, refusal20_utc, reading_refusals, refusal19_tt, refusal20_tt, days_with_second60}
+use Rattle.promises.specs.AnyInput.{in_range, refusal4, refusal5, refusal6_utc, refusal7, refusal11, refusal19_utc, refusal20_utc, reading_refusals, refusal19_tt, refusal20_tt, days_with_second60}
 use Rattle.std.specs.Prelude.{Err}
 
 -- PROMISE. The 27 days of the figures are the days before the steps after the first.
@@ -86,10 +86,24 @@ module _ (r : Reading) where
   pub utc_to_tt : instant_refusal_of (tt_of r) ≡ first_refusal (reading_refusals r)
   utc_to_tt = handed_readings ∙ in_figures [] [] refl
 
+  -- six tests are one, from either end
+  six : (a b c d e f : Bool) → (a && (b && (c && (d && (e && (f && true)))))) ≡ (((((a && b) && c) && d) && e) && f)
+  six false b c d e f = refl
+  six true false c d e f = refl
+  six true true false d e f = refl
+  six true true true false e f = refl
+  six true true true true false f = refl
+  six true true true true true false = refl
+  six true true true true true true = refl
+
+  -- the multipliers of a phase
+  multipliers : (k : Doodson) → named.first_refusal (range_cases k) ≡ first_refusal (refusal11 k ∷ [])
+  unfolding all_in_range number
+  multipliers k = ap (λ (b : Bool). cond (not b) 11 0) (six (in_range k.k1) (in_range k.k2) (in_range k.k3) (in_range k.k4) (in_range k.k5) (in_range k.k6))
+
   -- a phase
   pub phase : (k : Doodson) → tide_refusal_of (tide_of r k) ≡ first_refusal (reading_refusals r ++ (refusal11 k ∷ []))
-  unfolding all_in_range number
-  phase k = ap tide_refusal_of (in_full r k) ∙ handed_on Err tide_refusal_of (λ n. refl) (reading_cases r ++ range_cases k) _ ∙ in_figures (range_cases k) (refusal11 k ∷ []) refl
+  phase k = ap tide_refusal_of (in_full r k) ∙ handed_on Err tide_refusal_of (λ n. refl) (reading_cases r ++ range_cases k) _ ∙ in_figures (range_cases k) (refusal11 k ∷ []) (multipliers k)
 
 -- ---- an instant
 

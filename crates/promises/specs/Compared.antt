@@ -3,7 +3,7 @@
 use Rattle.std.specs.Prelude.{ℕ, ◌*◌, ◌≤◌, ◌≡◌, true, List, [], ◌∷◌, ◌++◌, map, ℤ, pos, negsuc, ◌-ℤ◌, length, drop, Ok, Err}
 use Rattle.record.specs.declared.Record.{Record}
 use Rattle.record.specs.Records.{read_of, record_day_of, record_micros_of}
-use Rattle.files.specs.Files.{IsFile, file_of, file_refusal_of}
+use Rattle.files.specs.Files.{file_of, file_refusal_of}
 use Rattle.compare.specs.declared.Entry.{Entry}
 use Rattle.compare.specs.Walk.{entry}
 use Rattle.compare.specs.Compare.{entries_of, list_bytes, compare_of, list_after, entries_number_of, compare_refusal_of}
@@ -13,16 +13,16 @@ use Rattle.instants.specs.declared.refusal.Refusal.TheVariants.{BufferShort, Rec
 
 -- the files s and t have the records rs and qs
 pub record Files (s t : List ℕ) (rs qs : List Record) : Type 0 where
-  pub first : file_of s ≡ IsFile rs
-  pub second : file_of t ≡ IsFile qs
+  pub first : file_of s ≡ Ok rs
+  pub second : file_of t ≡ Ok qs
 
 pub record ComparedExactly : Type 0 where
   -- a file is thirty bytes for each record, which is what they read as; its instants rise; an empty one is accepted
-  pub file_length : (s : List ℕ) (rs : List Record) → file_of s ≡ IsFile rs → length s ≡ 30 * length rs
-  pub file_reads : (s : List ℕ) (rs : List Record) → file_of s ≡ IsFile rs → (k : ℕ) (r : Record) (more : List Record) → drop k rs ≡ r ∷ more → read_of (drop (30 * k) s) ≡ Ok r
-  pub file_rises : (s : List ℕ) (rs : List Record) → file_of s ≡ IsFile rs → (k : ℕ) (r q : Record) (more : List Record) → drop k rs ≡ r ∷ q ∷ more
+  pub file_length : (s : List ℕ) (rs : List Record) → file_of s ≡ Ok rs → length s ≡ 30 * length rs
+  pub file_reads : (s : List ℕ) (rs : List Record) → file_of s ≡ Ok rs → (k : ℕ) (r : Record) (more : List Record) → drop k rs ≡ r ∷ more → read_of (drop (30 * k) s) ≡ Ok r
+  pub file_rises : (s : List ℕ) (rs : List Record) → file_of s ≡ Ok rs → (k : ℕ) (r q : Record) (more : List Record) → drop k rs ≡ r ∷ q ∷ more
       → instant_before r.day r.micros q.day q.micros ≡ true
-  pub file_empty : file_of [] ≡ IsFile []
+  pub file_empty : file_of [] ≡ Ok []
   -- an answer without a refusal is of two files
   pub files_there : (s t : List ℕ) (n : ℕ) → compare_refusal_of (compare_of s t n) ≡ 0 → (rs : List Record) × (qs : List Record) × Files s t rs qs
   -- what is listed at the instant d, m: nothing where neither file has it, or both with equal numbers; else one entry, with side, instant and differences

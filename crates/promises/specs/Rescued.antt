@@ -7,6 +7,7 @@ use Rattle.record.specs.Records.{read_of}
 use Rattle.rescue.specs.Walk.{range, has_record, ended, keeping, passing, walk_from, walk, ranges_of}
 use Rattle.rescue.specs.Rescue.{kept_bytes, list_bytes, rescue_of, records_after, list_after, kept_of, ranges_number_of, passed_of, rescue_refusal_of}
 use Rattle.rescue.specs.Claims.{Each, among, in_record, places_of, Apart, listed, WholeRecords}
+use Rattle.instants.specs.declared.refusal.Refusal.{Refusal}
 use Rattle.instants.specs.declared.refusal.Refusal.TheVariants.{BufferShort}
 
 pub record RescuedExactly : Type 0 where
@@ -14,7 +15,7 @@ pub record RescuedExactly : Type 0 where
   -- byte is passed
   pub walk_ends : (s : List ℕ) (i : ℕ) → length s ≤ i → walk_from s i ≡ ended
   pub walk_keeps : (s : List ℕ) (i : ℕ) (r : Record) → read_of (drop i s) ≡ Ok r → walk_from s i ≡ keeping i (walk_from s (i + 30))
-  pub walk_passes : (s : List ℕ) (i n : ℕ) → i < length s → read_of (drop i s) ≡ Err n → walk_from s i ≡ passing i (walk_from s (i + 1))
+  pub walk_passes : (s : List ℕ) (i : ℕ) (n : Refusal) → i < length s → read_of (drop i s) ≡ Err n → walk_from s i ≡ passing i (walk_from s (i + 1))
   -- every place of the bytes is passed or in a kept record, and not both; each kept place has a record, and no passed place has one
   pub every_place : (s : List ℕ) (p : ℕ) → among p (walk s).passed ≡ (ltb p (length s) && not (in_record p (walk s).kept))
   pub kept_read : (s : List ℕ) → Each (λ i. has_record s i ≡ true) (walk s).kept
