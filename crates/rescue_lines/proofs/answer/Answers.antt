@@ -17,7 +17,7 @@ zeros_long : length zeros ≡ 16920
 zeros_long = length-replicate {A = ℕ} 16920 0
 
 pub refuse-requires : goal.refuse-requires
-refuse-requires c = omega (arith, c.told-report, refusal_most c.in-Err.r)
+refuse-requires c = omega (arith, c.told-report, refusal_most)
 
 pub overflow_mul-result : goal.overflow_mul-result
 overflow_mul-result c = omega (arith, kept_most _ _ (sym c.in-Ok.ensures))

@@ -19,16 +19,14 @@ put_line-end-requires c =
     let i = c.loop-entry.invariant in
     let x = c.in-Some.ensures.steps in
     let w = chunk_within c.args.list.now _ _ (length c.loop-entry.yielded) (sym i.left ∙ x.1.0) (x.1.1 ∙ i.size) in
-    let short = line_most_lem c.read.result c.read.ensures.start_below c.read.ensures.size_below in
-    simp (length-take, length-drop) (omega (arith, short, w))
+    simp (length-take, length-drop) (omega (arith, line_most_lem, w))
 
 pub overflow_add-end : goal.overflow_add-end
 overflow_add-end c =
     let i = c.loop-entry.invariant in
     let x = c.in-Some.ensures.steps in
     let w = chunk_within c.args.list.now _ _ (length c.loop-entry.yielded) (sym i.left ∙ x.1.0) (x.1.1 ∙ i.size) in
-    let short = line_most_lem c.read.result c.read.ensures.start_below c.read.ensures.size_below in
-    omega (arith, short, w)
+    omega (arith, line_most_lem, w)
 
 pub loop-entry-preserved : goal.loop-entry-preserved
 loop-entry-preserved c =
