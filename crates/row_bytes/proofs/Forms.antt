@@ -1,16 +1,14 @@
 -- Bytes are of the right form exactly when none of the cases of the form applies; then the cases that are left are those of the rows. Assumes nothing.
 use Prim.Native.Nat.{ℕ, ◌≤◌}
-use mathlib.Core.Path.{◌≡◌, refl, ap, ◌∙◌}
-use mathlib.Core.Bool.{true, false, not}
-use Rattle.std.specs.Prelude.{Ok, Err, ⊤}
+use mathlib.Core.Path.{◌≡◌, ap}
+use mathlib.Core.Bool.{false, not}
+use Rattle.std.specs.Prelude.{Ok, ⊤}
 use mathlib.Core.List.{List}
 use borrow.Author.Tests.{ltb-false, eqb-true, le-ltb, eq-eqb, not-false}
 use lib.ListN.{length}
 use Rattle.bigendian.specs.Fields.{field_at}
 use Rattle.instants.specs.Refusals.{check, number}
-use Rattle.instants.proofs.FirstRefusal.{NoneApplies, none_both, none_answered, refused_checked, passed_none, first_none}
-use Rattle.instants.specs.declared.refusal.Refusal.{Refusal}
-use Rattle.instants.specs.declared.refusal.Refusal.TheVariants.{RowsDay, RowsSize}
+use Rattle.instants.proofs.FirstRefusal.{NoneApplies, none_both, none_answered, passed_none, first_none}
 use Rattle.rows.specs.Table.{fewest_rows, most_rows, days_wrong, numbers_wrong, table_cases, AcceptedTable}
 use Rattle.row_bytes.specs.Form.{head_length, length_field, version_field, version, form_length, row_count, table_in, form_cases, bytes_cases, AcceptedBytes}
 use Rattle.row_bytes.specs.Inner.{Whole, Lent}
@@ -35,7 +33,7 @@ none_formed s h = record {
   version = eqb-true _ _ (not-false _ h.1.1.1.1.1.0);
 }
 
-pub formed : (s : List ℕ) (u : ⊤) → check (form_cases s) ≡ Ok u → Formed s
+formed : (s : List ℕ) (u : ⊤) → check (form_cases s) ≡ Ok u → Formed s
 formed s u e = none_formed s (passed_none (form_cases s) u e)
 
 -- accepted bytes
@@ -78,29 +76,12 @@ table_held s e =
 pub lent : (s : List ℕ) → AcceptedBytes s → Lent s
 lent s e = record { whole = (accepted_form s e).whole; accepted = table_held s e }
 
--- the refusal of bytes: that of their form, or else that of the rows
-module _ (s : List ℕ) where
-  pub form_refused : (r : Refusal) → check (form_cases s) ≡ Err r → check (bytes_cases s) ≡ Err r
-  form_refused r e = refused_checked Err (form_cases s) (check (table_cases (table_in s))) r e
+-- bytes of the right form that neither test of the rows refuses are those of an accepted table
+module _ (s : List ℕ) (u : ⊤) (e : check (form_cases s) ≡ Ok u) (d : days_wrong (table_in s) ≡ false) (n : numbers_wrong (table_in s) ≡ false) where
+  rows_accepted : AcceptedTable (table_in s)
+  rows_accepted =
+      let f = formed s u e in
+      record { fewest = rw (table_count s) f.fewest; most = rw (table_count s) f.most; days = d; numbers = n }
 
-  module _ (u : ⊤) (e : check (form_cases s) ≡ Ok u) where
-    form_passed : check (bytes_cases s) ≡ check (table_cases (table_in s))
-    form_passed = none_answered Err (form_cases s) (check (table_cases (table_in s))) (passed_none (form_cases s) u e)
-
-    pub days_refused : days_wrong (table_in s) ≡ true → check (bytes_cases s) ≡ Err RowsDay
-    days_refused d = form_passed ∙ rw d refl
-
-    pub numbers_refused : days_wrong (table_in s) ≡ false → numbers_wrong (table_in s) ≡ true → check (bytes_cases s) ≡ Err RowsSize
-    numbers_refused d n = form_passed ∙ rw (d, n) refl
-
-    module _ (d : days_wrong (table_in s) ≡ false) (n : numbers_wrong (table_in s) ≡ false) where
-      pub rows_accepted : AcceptedTable (table_in s)
-      rows_accepted =
-          let f = formed s u e in
-          record { fewest = rw (table_count s) f.fewest; most = rw (table_count s) f.most; days = d; numbers = n }
-
-      pub rows_lent : Lent s
-      rows_lent = record { whole = (formed s u e).whole; accepted = rows_accepted }
-
-      pub bytes_passed : AcceptedBytes s
-      bytes_passed = bytes_accepted s (formed s u e) rows_accepted
+  pub rows_lent : Lent s
+  rows_lent = record { whole = (formed s u e).whole; accepted = rows_accepted }
