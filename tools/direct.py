@@ -6,7 +6,9 @@
 
 Starts from the functions that take a day to its date (STARTS) and follows every call. A loop, a function that reaches itself, and a call that leads to no function of ours
 are printed with the way to them, and the status is 1. In the source the functions to start from have to be those whose contract cites a definition of DEFINITIONS. The
-source is read by the few forms of the language that we use; where it has another (an import of everything, a path that has two meanings), that is printed too.
+source is read by the few forms of the language that we use; where it has another (an import of everything, a trait, a path that has two meanings), that is printed too.
+What a function does not call by name counts as called as well: the calls of its closures, functions that are given to others, methods of ours by their name alone, and
+where it has a `?`, each `from` of ours that `?` may ask.
 
 With --self-test loops, recursions and other changes are planted in a copy, one by one, and each has to be answered as it should be."""
 
@@ -23,9 +25,11 @@ STARTS = LIBRARY_STARTS | {f"enfysgar::calendar_calls::{name}" for name in EXPOR
 
 LOOPS = {"while", "loop", "for"}
 NO_CALLS = LOOPS | {"if", "else", "match", "return", "break", "let", "in", "as", "mut", "ref"}  # words that may stand before a parenthesis
-# the language's own functions, and its one method
-BUILT_IN = {f"{kind}{bits}::{f}" for kind in "ui" for bits in (8, 16, 32, 64, "size") for f in ("count_ones", "leading_zeros", "trailing_zeros")}
-BUILT_IN |= {f"f{bits}::{f}" for bits in (32, 64) for f in ("to_bits", "from_bits")} | {".len"}
+# the language's own functions and methods; `from` of a number takes another number, and what is ours besides is followed
+NUMBERS = {f"{kind}{bits}" for kind in "ui" for bits in (8, 16, 32, 64, "size")}
+BUILT_IN = {f"{number}::{f}" for number in NUMBERS for f in ("count_ones", "leading_zeros", "trailing_zeros", "from")}
+BUILT_IN |= {f"f{bits}::{f}" for bits in (32, 64) for f in ("to_bits", "from_bits")} | {"Ok", "Err", "Some", ".len", ".ok_or", ".map_or"}
+TRAITS = {"From", "Iterator", "Model"}  # those that we implement: `from` is found by its type, the others' functions as methods
 TOKEN = re.compile(
     r"""(?P<left_out>\s+|//[^\n]*|/\*.*?\*/)
     |b?r(?P<marks>\#*)".*?"(?P=marks)|b?"(?:\\.|[^"\\])*"|b'(?:\\.|[^'\\])+'|'[^\W\d]\w*  # bytes, and labels
@@ -87,6 +91,7 @@ class Program:
     def __init__(self, root):
         self.root = root
         self.functions, self.methods, self.of_types = {}, {}, []
+        self.froms = {}  # by type: the paths of its functions `from`
         self.values = set()  # what is written like a call and makes a struct or an enum
         self.meaning = {}  # by module or type: name -> path, or for an import the list of names that it is written as
         self.crates = re.findall(r"^(\w+)(?: staticlib)?:", (root / "crates.txt").read_text(encoding="utf-8"), re.M)
@@ -94,11 +99,11 @@ class Program:
             for name in ("lib.rt", "main.rt"):
                 if (root / "crates" / crate / "src" / name).exists():
                     self.module((crate,), root / "crates" / crate / "src" / name)
-        for file, at, path, group in self.of_types:  # when all names are known
-            of_type = self.find(at, path)
-            if of_type is None:
+        for file, at, trait, path, group in self.of_types:  # when all names are known
+            of_type = self.type_of(at, path)
+            if of_type is None or (of_type[0] in NUMBERS and not trait):
                 raise Unread(f"{file.where(group)}: {'::'.join(path)} is no type of ours")
-            self.items(file, at, group + 1, file.other[group], of_type)
+            self.items(file, at, group + 1, file.other[group], of_type, trait)
 
     def module(self, at, path):
         file = File(self.root, path)
@@ -108,7 +113,49 @@ class Program:
         if self.meaning.setdefault(at, {}).setdefault(name, meaning) != meaning or at + (name,) in self.functions:
             raise Unread(f"{file.shown}: {name} has two meanings")
 
-    def items(self, file, at, place, end, of_type=None):
+    def type_of(self, module, path, of_type=None):
+        """The path of a type of ours, or of a number; None for another."""
+        found = self.find(module, path, of_type)
+        return found or (tuple(path) if len(path) == 1 and path[0] in NUMBERS else None)
+
+    def named(self, file, place):
+        """The names of a path, the place after it, and its words with what stands in < and >, which may be types, lifetimes and constants."""
+        words, names, start = file.words, [], place
+        while file.names[place]:
+            names, place = names + [words[place]], place + 1
+            if words[place] == "<":
+                place = self.parameters(file, place)
+            if words[place] != "::":
+                return names, place, "".join(words[start:place]).replace("::", ".")
+            place += 1
+        raise Unread(f"{file.where(place)}: {words[place]} is not read here")
+
+    def parameters(self, file, place):
+        """The place after < .. >."""
+        depth = 0
+        while True:
+            word = file.words[place]
+            depth += (word == "<") - (word == ">" and file.words[place - 1] != "-")
+            place = file.other.get(place, place) + 1
+            if not word or depth == 0:
+                return place
+
+    def implemented(self, file, at, place, group):
+        """The functions of a type, or those of a trait for it, which are read when all names are known."""
+        trait = ""
+        if file.words[place] == "<":
+            place = self.parameters(file, place)
+        path, place, words = self.named(file, place)
+        if file.words[place] == "for":
+            if path[-1] not in TRAITS:
+                raise Unread(f"{file.where(group)}: impl of {path[-1]} is not read here")
+            trait = words if path[-1] == "From" else path[-1]
+            path, place, _ = self.named(file, place + 1)
+        if place != group:
+            raise Unread(f"{file.where(place)}: {file.words[place]} is not read here")
+        self.of_types.append((file, at, trait, path, group))
+
+    def items(self, file, at, place, end, of_type=None, trait=""):
         """The items of a module, or the functions of a type."""
         words = file.words
         while place < end:
@@ -117,7 +164,10 @@ class Program:
                 place = file.other[place + 2]
             elif word == "#" or (word == "pub" and after == "("):
                 place = file.other[place + 1]
-            elif word in ("ghost", "type", "static") or (word == "const" and after != "fn"):
+            elif word in ("const", "static") and after != "fn":
+                self.name(file, of_type or at, after, (of_type or at) + (after,))
+                place = file.to(place, [";"])
+            elif word == "ghost" or (word == "type" and trait):
                 place = file.to(place, [";"])
             elif word == "use":
                 place = self.imports(file, at, place + 1, [])
@@ -131,9 +181,9 @@ class Program:
                     self.module(at + (after,), next((o for o in options if o.exists()), options[0]))
                 place = file.to(place, [";", "{"])
                 place = file.other.get(place, place)
-            elif word == "impl" and after != "<":
+            elif word == "impl":
                 group = file.to(place, ["{"])
-                self.of_types.append((file, at, words[place + 1 : group : 2], group))
+                self.implemented(file, at, place + 1, group)
                 place = file.other[group]
             elif word in ("struct", "enum"):
                 self.name(file, at, after, at + (after,))
@@ -148,7 +198,7 @@ class Program:
                     place = file.other.get(place + 1, place + 1)
                 place = last
             elif word == "fn":
-                place = self.function(file, at, place + 1, of_type)
+                place = self.function(file, at, place + 1, of_type, trait)
             elif word not in ("pub", "const", "extern", '"C"'):
                 raise Unread(f"{file.where(place)}: {word} is not read here")
             place += 1
@@ -174,17 +224,20 @@ class Program:
             self.name(file, at, path[-1], path)
         return place
 
-    def function(self, file, at, place, of_type):
+    def function(self, file, at, place, of_type, trait):
         """A function: what stands before its body is its parameters and its contract. The place where it ends."""
         name, contract, start = file.words[place], set(), file.starts[place]
-        key = (of_type or at) + (name,)
-        self.name(file, of_type or at, name, key)
+        inside = of_type + (trait,) if trait.startswith("From") else of_type or at
+        key = inside + (name,)
+        self.name(file, inside, name, key)
         place = file.to(place, ["{"])
         while {"requires", "ensures", "ghost"} & set(file.words[place - 2 : place]):
             contract.update(file.words[place : file.other[place]])
             place = file.to(file.other[place] + 1, ["{"])
         self.functions[key] = Function(file, at, of_type, contract, file.text[start : file.starts[place] + 1], range(place + 1, file.other[place]))
-        if of_type:
+        if inside != (of_type or at):
+            self.froms.setdefault(of_type, []).append(key)
+        elif of_type:
             self.methods.setdefault(name, []).append(key)
         return file.other[place]
 
@@ -217,12 +270,16 @@ class Program:
     def calls(self, function):
         """For each call of a body its place, its words, and the paths of the functions that it may call; None where it is not followed."""
         words, names = function.file.words, function.file.names
+        own = set(re.findall(r"(\w+)\s*:(?!:)", function.head)) | {words[p + 1 + (words[p + 1] == "mut")] for p in function.body if words[p] == "let"}
         for place in function.body:
             word, after = words[place], words[place + 1]
             is_name = names[place] and word not in NO_CALLS
             if word == "fn" or (word in (")", "]") and after == "(") or (word == "::" and after == "<") or (is_name and after == "!" and words[place + 2] in CLOSES):
                 yield place, word + after, None
-            if not is_name or after != "(":
+            if word == "?":
+                here = {*words[function.body[0] : place], *re.findall(r"\w+", function.head)}
+                yield place, word, [key for of_type, keys in self.froms.items() if of_type[0] not in NUMBERS or of_type[0] in here for key in keys]
+            if not is_name or after in ("::", ":"):
                 continue
             first = place
             while words[first - 1] == "::":
@@ -230,9 +287,19 @@ class Program:
             path = words[first : place + 1 : 2]
             if words[first - 1] == ".":
                 shown, found = "." + word, self.methods.get(word)
+                if after != "(":
+                    continue  # a field
             else:
                 key = self.find(function.module, path, function.of_type)
                 shown, found = "::".join(path), [key] if key in self.functions else [] if key in self.values else None
+                if word == "from" and len(path) > 1:
+                    found = self.froms.get(self.type_of(function.module, path[:-1], function.of_type), found)
+                if after != "(" and (len(path) == 1 or key) and not found:
+                    continue  # a value, a type or a word of the language
+                if path[0] in own and len(path) == 1:  # the function's own: a value, or what is not followed where it is called
+                    if after != "(":
+                        continue
+                    found = None
             if shown in BUILT_IN and path[0] not in self.meaning.get(function.module, {}):
                 found = found or []
             yield place, shown, found
@@ -324,7 +391,7 @@ def plants(program, reached):
         return [first("calendar::year_day", f"let k = {call};"), last("instants", COUNTED), *(last("calendar", words) for words in added)]
 
     for name in reached:
-        itself = name.rsplit("::", 1)[-1]
+        itself = ("Self::" if program.functions[tuple(name.split("::"))].of_type else "") + name.rsplit("::", 1)[-1]
         for loop in ("while true {}", "loop {}", "for i in 0..9 {}", "'a: loop {}"):
             yield f"{loop} in {name}", "a loop", [first(name, loop)]
         yield f"{name} calls itself", f"{name} > {name}", [first(name, f"{itself}(0);")]
@@ -347,7 +414,25 @@ def plants(program, reached):
     yield "the same as a method", "a loop", below("p.counted()", f"impl YearDay {{ {COUNTED} }}")
     yield "a type of that name too", "counted has two meanings", below("counted(n)", "use instants::counted;", "struct counted {}")
     yield "an import of everything", "an import of everything", below("counted(n)", "use instants::*;")
-    yield "types with lifetimes", "impl is not read here", below("p.counted()", f"impl<'a> Held<'a> {{ {COUNTED} }}")
+    held = "struct Held<'a, const N: u64> { s: &'a [u8] }"
+    yield "types with lifetimes", "a loop", below("p.counted()", held, f"impl<'a, const N: u64> Held<'a, N> {{ {COUNTED} }}")
+    yield "types that are not ours", "Held is no type of ours", below("p.counted()", f"impl<'a> Held<'a> {{ {COUNTED} }}")
+    yield "a number as a type of ours", "u64 is no type of ours", below("p.counted()", f"impl u64 {{ {COUNTED} }}")
+    yield "the same of an iterator", "a loop", below("p.next()", held, "impl<'a> Iterator for Held<'a> { type Item = u64; fn next(&mut self) -> u64 { instants::counted(1) } }")
+    yield "the same in a closure", DEEP, below("Some(n).map_or(0, |k| instants::counted(k))")
+    yield "the same given by its name", DEEP, below("Some(n).map_or(0, instants::counted)")
+    yield "the same given by one name", "a loop", below("Some(n).map_or(0, counted)", "use instants::counted;")
+    yield "the same of a generic function", "a loop", below("of_any::of_any(n, n)", "mod of_any { fn of_any<T: Drop, const N: u64>(t: T, n: u64) -> u64 { instants::counted(n) } }")
+    yield "a static, and a value of that name", "", below("{ let counted = COUNTED; counted + n }", "static COUNTED: u64 = 1;", "use instants::counted;")
+    yield "a closure that is called", "`counted` is no function of ours", below("{ let counted = |k: u64| k; counted(n) }", "use instants::counted;")
+    yield "a method that takes a closure", "`.map` is no function of ours", below("Some(n).map(|k| k)")
+    yield "a function of the library given by its name", "`std::other` is no function of ours", below("Some(n).map_or(0, std::other)")
+    yield "the same by `?`", "calendar::date_of > instants::refusal::Refusal::From<YearDay>::from", below("n", "impl From<YearDay> for Refusal { fn from(p: YearDay) -> Refusal { while true {} } }")
+    yield "the same by `from`", "calendar::leap > u64::From<YearDay>::from", below("n", "impl From<YearDay> for u64 { fn from(p: YearDay) -> u64 { while true {} } }")
+    yield "`from` given by its name", "calendar::year_day > u16::From<YearDay>::from", below("p.map_or(0, u16::from)", "impl From<YearDay> for u16 { fn from(p: YearDay) -> u16 { while true {} } }")
+    yield "an operator of ours", "impl of Add is not read here", below("n", "impl std::ops::Add for YearDay { fn add(self, p: YearDay) -> YearDay { while true {} } }")
+    yield "a trait of ours", "trait is not read here", below("p.counted()", "trait Counted { fn counted(self) -> u64; }")
+    yield "a type by another name", "type is not read here", below("n", "type Other = YearDay;")
     yield "a comment in a comment", "a comment in a comment", [first("calendar::year_day", '/* /* */ b" */ while true {} let b = b"x";')]
     yield "a recursion of two functions", "a recursion: calendar::date_after > calendar::twelfths", [first("calendar::twelfths", "crate::date_after(e);")]
     yield "a recursion of two crates", "a recursion: calendar::date_of > instants::day_index", [first("instants::day_index", "calendar::date_of(day);")]
