@@ -3,9 +3,9 @@
 
     tools/cited.py [ROOT] [--self-test]
 
-Names in backticks are defined in crates/ or include/enfysgar.h, paths exist, and a name stands in the file that is named with it. In docs/PROMISES.md each field of the
-three demands and each theorem marked PROMISE is cited; in each document of APART each must-fail edit of its crates, in docs/WRONG_PROGRAMS.md each other one. With
---self-test mistakes are then planted one by one, in memory, and each of them must be noticed."""
+Names in backticks are defined in crates/ or include/enfysgar.h (a method as `Type::method`, a variant as `Enum::Variant` or alone), paths exist, and a name stands in the
+file that is named with it. In docs/PROMISES.md each field of the three demands and each theorem marked PROMISE is cited; in each document of APART each must-fail edit of
+its crates, in docs/WRONG_PROGRAMS.md each other one. With --self-test mistakes are then planted one by one, in memory, and each of them must be noticed."""
 
 import re
 import sys
@@ -18,7 +18,8 @@ DOCUMENTS = ["PROMISES", "RULES", "DECISIONS", "WRONG_PROGRAMS", "WRONG_ROWS", "
 APART = {"WRONG_ROWS": ("rows/", "row_bytes/", "row_places/", "nutation/"), "WRONG_RESCUE": ("rescue/", "rescue_lines/"), "WRONG_TIDES": ("binary64/", "tide/", "schwiderski/"),
          "WRONG_COMPARE": ("files/", "compare/", "promises/compare_")}
 # words in backticks that are no names of ours: keywords, the C library's, the kit's, what the program writes, placeholders
-NO_NAMES = {"requires", "match", "fmod", "rem", "must-fail", "RT_JOBS", "refused", "count", "NoX", "_", "returns", "returns-in-NoDay-clause-refusal"}
+NO_NAMES = {"requires", "match", "fmod", "rem", "must-fail", "RT_JOBS", "refused", "count", "_", "returns", "returns-in-Err-clause-refusal", "Result", "Option", "Ok", "Err",
+            "From", "Model"}
 # folders that are made or installed, and not kept
 MADE = ("target/", "build/", "share/")
 
@@ -63,8 +64,11 @@ class Tree:
     @staticmethod
     def of_rt(text):
         names = set(re.findall(r"^\s*(?:pub )?(?:ghost )?(?:extern \"C\" )?(?:fn|const|static|struct|enum) (\w+)", text, re.M))
-        for body in re.findall(r"\benum \w+ \{(.*?)\n\}", text, re.S):
-            names.update(re.findall(r"^\s*([A-Z]\w*)", body, re.M))
+        for enum, body in re.findall(r"\benum (\w+) \{(.*?)\n\}", text, re.S):
+            variants = re.findall(r"^\s*([A-Z]\w*)", body, re.M)
+            names.update(variants, (f"{enum}::{variant}" for variant in variants))
+        for of, body in re.findall(r"^impl\b(?:[^\n]* for|<[^>\n]*>)? (\w+)[^\n]*\{\n(.*?)^\}", text, re.M | re.S):
+            names.update(f"{of}::{method}" for method in re.findall(r"^    (?:pub )?fn (\w+)", body, re.M))
         return names
 
     @lru_cache(maxsize=None)
@@ -131,7 +135,7 @@ class Document:
             for word in re.finditer(rf"(?<!\w)(?:(\w+)::)?({NAME})", text):
                 if word.group() in NO_NAMES or not (alone and word.start() == 0 or SHAPED.search(word.group())):
                     continue
-                there = tree.in_crate(*word.groups()) if word.group(1) else word.group(2) in tree.names
+                there = word.group() in tree.names or bool(word.group(1)) and tree.in_crate(*word.groups())
                 self.cite("name", place + word.start(), word.group(), there)
             self.spans.append((place, place + len(text), text))
 
