@@ -1,6 +1,8 @@
 -- The reference values of docs/RULES.md that are proved, as rows of one list.
-use Rattle.std.specs.Prelude.{ℕ, ◌≡◌, List, [], ◌∷◌, ℤ, pos, neg_ℤ, Ok, Err}
+use Rattle.std.specs.Prelude.{ℕ, ◌≡◌, List, [], ◌∷◌, ℤ, pos, neg_ℤ, Result, Ok, Err}
 use Rattle.calendar.specs.Dates.{day_of}
+use Rattle.instants.specs.declared.refusal.Refusal.{Refusal}
+use Rattle.instants.specs.Refusals.{number}
 use Rattle.instants.specs.Instants.{instant}
 use Rattle.utc.specs.Readings.{reading}
 use Rattle.utc.specs.Conversions.{tt_of, utc_of}
@@ -21,18 +23,22 @@ pub data Row : Type 0 where
   utc_is : (reading : Reading) (day micros : ℕ) → Row
   utc_refused : (reading : Reading) (refusal : ℕ) → Row
 
+-- an answer is the refusal of that number
+abbrev pub Refused : {A : Type 0} → Result A Refusal → ℕ → Type 0
+Refused a n = (r : Refusal) × (a ≡ Err r) × (number r ≡ n)
+
 -- what a row says
 unfoldable pub Says : Row → Type 0
 Says (date_is y m d n) = day_of y m d ≡ Ok (pos n)
-Says (date_refused y m d r) = day_of y m d ≡ Err r
+Says (date_refused y m d r) = Refused (day_of y m d) r
 Says (time_word_is d m t) = split_of (pos d) m ≡ Ok (words (pos d) t)
-Says (words_refused d t r) = join_of (pos d) t ≡ Err r
+Says (words_refused d t r) = Refused (join_of (pos d) t) r
 Says (record_is d m ut1 lod rate bytes) =
     (record_bytes (words (pos d) (time_word (pos d) m)) ut1 lod rate ≡ bytes)
     × (read_of bytes ≡ Ok (record_with (pos d) m ut1 lod rate))
 Says (uncertainty_is d m u) = uncertainty_of (nutation_of (pos d) m) ≡ u
 Says (utc_is r d m) = (tt_of r ≡ Ok (instant (pos d) m)) × (utc_of (pos d) m ≡ Ok r)
-Says (utc_refused r n) = tt_of r ≡ Err n
+Says (utc_refused r n) = Refused (tt_of r) n
 
 -- every row of a list
 unfoldable pub EveryRow : List Row → Type 0
