@@ -15,7 +15,7 @@ RT ?= rt
 CC ?= cc
 CFLAGS ?= -O2 -Wall -Wextra
 PREFIX ?= /usr/local
-VERSION = 2.5.1
+VERSION = 2.5.2
 DAY ?= 2007 12 31 96 900
 
 ARCHIVE = target/staticlib/libenfysgar.a

@@ -97,8 +97,8 @@ extern "C" {
  */
 #define ENFYS_VERSION_MAJOR 2
 #define ENFYS_VERSION_MINOR 5
-#define ENFYS_VERSION_PATCH 1
-#define ENFYS_VERSION_STRING "2.5.1"
+#define ENFYS_VERSION_PATCH 2
+#define ENFYS_VERSION_STRING "2.5.2"
 
 /*
  * Refusal numbers. 0 is success. Where several apply, the first in the order
