@@ -1,4 +1,5 @@
 // One half of an argument.
+// Derived from the IERS routine TDFRPH; not IERS Conventions software (NOTICE, docs/DIFFERENCES.md).
 ghost use Rattle.std.specs.Prelude.{◌≡◌, ◌^◌, ◌<◌};
 ghost use Rattle.arguments.specs.Ours as ours;
 ghost use Rattle.arguments.specs.Inner.{HalfBounds};

@@ -1,4 +1,5 @@
 // A moment, and the same in centuries.
+// Derived from the IERS routine TDFRPH; not IERS Conventions software (NOTICE, docs/DIFFERENCES.md).
 ghost use Rattle.std.specs.Prelude.{◌≡◌, ◌≤◌};
 ghost use Rattle.instants.specs.Moments.{latest};
 ghost use Rattle.arguments.specs.Ours.{high, per_century};
