@@ -21,7 +21,7 @@ use Rattle.rescue.proofs.Entries.{list_length}
 use Rattle.rescue.proofs.Rounds.{kept_length}
 use Rattle.rescue.proofs.Answers.{given_fits, given_counts, records_given, list_given}
 use Rattle.rescue.proofs.Promises.{rescue_most, front_reads_back}
-use Rattle.text.specs.Text.{refusal_text}
+use Rattle.text.specs.Text.{refused_text}
 use Rattle.rescue_lines.specs.Lines.{lines_text, totals_text, records_text, report_text}
 use Rattle.rescue_lines.proofs.Promises.{records_accepted, report_accepted}
 use Rattle.std.specs.Prelude.{Result, Ok, Err}
@@ -50,9 +50,9 @@ module _ (s : List ℕ) (n : Refusal) (e : rescue_of s records_room list_room �
   unfolding records_text
   none_written = refused_alike Err (λ _. []) (input_cases s) (Ok (counts_of s)) _ n (λ k p. cc) (λ p. impossible (cc)) (sym (roomy s) ∙ e)
 
-  pub refusal_written : refusal_text n ≡ report_text s
+  pub refusal_written : refused_text n ≡ report_text s
   unfolding report_text
-  refusal_written = sym (refused_alike Err refusal_text (input_cases s) (Ok (counts_of s)) _ n (λ k p. cc) (λ p. impossible (cc)) (sym (roomy s) ∙ e))
+  refusal_written = sym (refused_alike Err refused_text (input_cases s) (Ok (counts_of s)) _ n (λ k p. cc) (λ p. impossible (cc)) (sym (roomy s) ∙ e))
 
 -- ---- answered
 

@@ -4,7 +4,7 @@ use Rattle.instants.specs.Refusals.{refused_or}
 use Rattle.rescue.specs.declared.Counts.{Counts}
 use Rattle.rescue.specs.declared.Range.{Range}
 use Rattle.rescue.specs.Rescue.{ranges_in, counts_of, kept_bytes, input_cases}
-use Rattle.text.specs.Text.{ascii, numeral, refusal_text}
+use Rattle.text.specs.Text.{ascii, numeral, refused_text}
 
 -- the line of a range: how many bytes it has, and the place of the first
 unfoldable pub line_text : Range → List ℕ
@@ -26,4 +26,4 @@ records_text s = refused_or (λ _. []) (input_cases s) (kept_bytes s)
 
 -- what goes to standard error: the lines and the totals, or the refusal
 unfoldable pub report_text : List ℕ → List ℕ
-report_text s = refused_or refusal_text (input_cases s) (lines_text (ranges_in s) ++ totals_text (counts_of s))
+report_text s = refused_or refused_text (input_cases s) (lines_text (ranges_in s) ++ totals_text (counts_of s))

@@ -82,7 +82,7 @@ pub fn answer(s: &[u8], records: &mut [u8; RECORDS], report: &mut [u8; REPORT]) 
     match rescue::rescue_of(s, RECORDS, LIST) {
         Err(r) => Sizes {
             records: 0,
-            report: text::refuse(r, report),
+            report: text::refuse_by(r, report),
         },
         Ok(c) => {
             let mut list = [0u8; LIST];

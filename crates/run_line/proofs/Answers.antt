@@ -16,7 +16,7 @@ use Rattle.record.specs.Format.{record_length}
 use Rattle.run.specs.Run.{run_written, run_bytes}
 use Rattle.run.proofs.Records.{run_length}
 use Rattle.calendar.specs.Limits.{second_micros}
-use Rattle.text.specs.Text.{refusal_text}
+use Rattle.text.specs.Text.{refused_text}
 use Rattle.text.proofs.Pieces.{Puts}
 use Rattle.run_line.specs.Words.{bad_text}
 use Rattle.run_line.specs.Answer.{room, line_day, day_run_cases, day_run_text, answer_text}
@@ -27,10 +27,10 @@ use Rattle.std.specs.Prelude.{Ok, Err, Some, None, ⊤}
 module _ (d : ℤ) (count step : ℕ) where
   module _ (old : List ℕ) (long : length old ≡ room) where
     -- a run that is refused leaves the buffer to its refusal's text
-    pub no_run : (r : Refusal) → check (day_run_cases d count step) ≡ Err r → (refusal_text r ≡ day_run_text d count step) × (run_written d 0 count (step * second_micros) old ≡ old)
+    pub no_run : (r : Refusal) → check (day_run_cases d count step) ≡ Err r → (refused_text r ≡ day_run_text d count step) × (run_written d 0 count (step * second_micros) old ≡ old)
     unfolding day_run_text run_written
     no_run r e = (
-      sym (refused_checked refusal_text (day_run_cases d count step) _ r e),
+      sym (refused_checked refused_text (day_run_cases d count step) _ r e),
       rw long (refused_checked (λ _. old) (day_run_cases d count step) _ r e),
     )
 
@@ -39,8 +39,8 @@ module _ (d : ℤ) (count step : ℕ) where
     unfolding day_run_text run_written
     a_run u e =
         let n = passed_none (day_run_cases d count step) u e in
-        let t : refused_or refusal_text (day_run_cases d count step) (run_bytes d 0 (step * second_micros) count) ≡ run_bytes d 0 (step * second_micros) count =
-        none_answered refusal_text (day_run_cases d count step) _ n in
+        let t : refused_or refused_text (day_run_cases d count step) (run_bytes d 0 (step * second_micros) count) ≡ run_bytes d 0 (step * second_micros) count =
+        none_answered refused_text (day_run_cases d count step) _ n in
         rw (t, long) (sym (run_length d 0 (step * second_micros) count), none_answered (λ _. old) (day_run_cases d count step) _ n)
 
 -- ---- a line
@@ -51,10 +51,10 @@ module _ (s : List ℕ) where
   bad e = rw e refl
 
   module _ (l : Line) (e : line_of s ≡ Some l) where
-    pub no_date : (n : Refusal) → day_of l.year l.month l.day ≡ Err n → refusal_text n ≡ answer_text s
+    pub no_date : (n : Refusal) → day_of l.year l.month l.day ≡ Err n → refused_text n ≡ answer_text s
     unfolding answer_text day_of
     no_date n f =
-        rw e (sym (refused_alike Err refusal_text (date_cases l.year l.month l.day) (Ok (line_day l)) _ n (λ k p. cc) (λ p. impossible (cc)) f))
+        rw e (sym (refused_alike Err refused_text (date_cases l.year l.month l.day) (Ok (line_day l)) _ n (λ k p. cc) (λ p. impossible (cc)) f))
 
     pub on_date : (d : ℤ) → day_of l.year l.month l.day ≡ Ok d → day_run_text d l.count l.step ≡ answer_text s
     unfolding answer_text day_of
@@ -63,4 +63,4 @@ module _ (s : List ℕ) where
         let r = answered_none Err cs (Ok (line_day l)) (Ok d) (λ n p. impossible (cc)) f in
         let g : Ok (line_day l) ≡ Ok d = r.1 in
         let h : d ≡ line_day l = cc in
-        rw (e, h) (sym (none_answered refusal_text cs _ r.0))
+        rw (e, h) (sym (none_answered refused_text cs _ r.0))

@@ -23,8 +23,8 @@ use Rattle.instants.specs.Instants.{day_at_index}
 use Rattle.instants.proofs.Accepted.{between}
 use Rattle.run.proofs.Records.{run_length}
 use Rattle.calendar.specs.Limits.{second_micros}
-use Rattle.text.specs.Text.{ascii, numeral, refusal_text}
-use Rattle.text.proofs.Numerals.{by_digits, numeral_one, numeral_more, refusal_most}
+use Rattle.text.specs.Text.{ascii, numeral, refused_text}
+use Rattle.text.proofs.Numerals.{by_digits, numeral_one, numeral_more, refused_most}
 use Rattle.run_line.specs.Words.{bad_text}
 use Rattle.run_line.specs.Answer.{room, line_day, day_run_text, line_text, answer_text}
 use Rattle.run_line.specs.Claims.{short_run_cases, short_cases, line_run}
@@ -37,15 +37,15 @@ use Rattle.instants.specs.declared.refusal.Refusal.TheVariants.{RunCount}
 
 -- PROMISE. For a line of five numbers the program writes the first of these refusals that applies: 1, 2 and 3 for the date, 17 for the count, 18 for the
 -- step, and 8 for a last instant past the last day; or else the run's records, from 0 h of the line's date on.
-pub line_answer : (s : List ℕ) (l : Line) → line_of s ≡ Some l → answer_text s ≡ refused_or refusal_text (short_cases l) (line_run l)
+pub line_answer : (s : List ℕ) (l : Line) → line_of s ≡ Some l → answer_text s ≡ refused_or refused_text (short_cases l) (line_run l)
 unfolding answer_text day_run_text day_of
 line_answer s l e =
     rw e
-    (in_both_lem (λ (x y : List ℕ). x ≡ y) refusal_text refusal_text (date_cases l.year l.month l.day) _ _ (λ k. refl)
+    (in_both_lem (λ (x y : List ℕ). x ≡ y) refused_text refused_text (date_cases l.year l.month l.day) _ _ (λ k. refl)
     (λ h.
     let z = line_day l in
     let o = (date_range z (date l.year l.month l.day) (there_and_back l.year l.month l.day z (none_answered Err (date_cases l.year l.month l.day) (Ok z) h))).0 in
-    in_both_lem (λ (x y : List ℕ). x ≡ y) refusal_text refusal_text (case RunCount (bad_count l.count) ∷ []) _ _ (λ k. refl)
+    in_both_lem (λ (x y : List ℕ). x ≡ y) refused_text refused_text (case RunCount (bad_count l.count) ∷ []) _ _ (λ k. refl)
     (λ p. let b = between l.count 1 most_records p.0 in rw (o, le-ltb room (record_length * l.count) (omega arith)) refl)))
 
 -- a digit's byte
@@ -77,8 +77,8 @@ refusal_number l = numeral_writes (first_refusal (short_cases l)) (omega (arith,
 -- ---- how much is written
 
 -- a refusal's text is shorter than a day's run
-refusal_short : (n : Refusal) → length (refusal_text n) ≤ 2880
-refusal_short n = omega (arith, refusal_most n)
+refusal_short : (n : Refusal) → length (refused_text n) ≤ 2880
+refusal_short n = omega (arith, refused_most n)
 
 -- PROMISE. The program writes 2,880 bytes at most.
 pub answer_most : (s : List ℕ) → length (answer_text s) ≤ 2880
@@ -89,7 +89,7 @@ answer_most s = by (line_of s) refl
     by None e = rw (← bad s e) (omega arith)
     by (Some l) e =
         rw (line_answer s l e)
-        (in_each refusal_text (λ (x : List ℕ). length x ≤ 2880) (short_cases l) (line_run l) refusal_short
+        (in_each refused_text (λ (x : List ℕ). length x ≤ 2880) (short_cases l) (line_run l) refusal_short
         (λ h.
         let b = between l.count 1 most_records (none_both (date_cases l.year l.month l.day) (short_run_cases l) h).1.0 in
         omega (arith, run_length (line_day l) 0 (l.step * second_micros) l.count, b.1)))
@@ -112,7 +112,7 @@ day_accepted = (refl, (refl, (refl, (refl, (refl, (refl, tt))))))
 -- PROMISE. A line that is answered by a run exists: a day of quarter hours, 2,880 bytes of records.
 pub some_line : length (answer_text a_day) ≡ 2880
 some_line =
-    ap length (line_answer a_day its_line day_parsed ∙ none_answered refusal_text (short_cases its_line) (line_run its_line) day_accepted)
+    ap length (line_answer a_day its_line day_parsed ∙ none_answered refused_text (short_cases its_line) (line_run its_line) day_accepted)
     ∙ run_length (line_day its_line) 0 (its_line.step * second_micros) 96
 
 -- ---- which bytes of the input decide

@@ -19,7 +19,7 @@ fn day_run(day: i64, count: u64, step: u64, buffer: &mut [u8]) -> usize
     let start = Instant { day, micros: 0 };
     match run::write(start, count, step * SECOND_MICROS, buffer) {
         Ok(()) => LENGTH * (count as usize),
-        Err(r) => text::refuse(r, buffer),
+        Err(r) => text::refuse_by(r, buffer),
     }
 }
 
@@ -38,6 +38,6 @@ pub fn answer(s: &[u8], buffer: &mut [u8; 2880]) -> usize
     };
     match date.day_number() {
         Ok(day) => day_run(day, l.count, l.step, buffer),
-        Err(r) => text::refuse(r, buffer),
+        Err(r) => text::refuse_by(r, buffer),
     }
 }

@@ -10,7 +10,7 @@ use lib.ListN.{length, length-append}
 use borrow.Author.Tests.{lt-ltb, le-ltb, ltb-true, ltb-false}
 use Rattle.instants.specs.declared.refusal.Refusal.{Refusal}
 use Rattle.instants.specs.Refusals.{number}
-use Rattle.text.specs.Text.{digit, numeral_in, numeral, refusal_text}
+use Rattle.text.specs.Text.{digit, numeral_in, numeral, refusal_text, refused_text}
 
 -- a number has one digit, or more than one
 pub by_digits : {P : Type 0} (n : ℕ) → (n < 10 → P) → (10 ≤ n → P) → P
@@ -88,10 +88,13 @@ pub numeral_most : (n : ℕ) → length (numeral n) ≤ 20
 numeral_most n = most 20 n
 
 -- how many bytes a refusal's text has
-pub refusal_length : (r : Refusal) → length (refusal_text r) ≡ length (numeral (number r)) + 9
+pub refusal_length : (n : ℕ) → length (refusal_text n) ≡ length (numeral n) + 9
 unfolding refusal_text
-refusal_length r = simp length-append (omega arith)
+refusal_length n = simp length-append (omega arith)
 
 -- twenty-nine at most
-pub refusal_most : (r : Refusal) → length (refusal_text r) ≤ 29
-refusal_most r = omega (arith, refusal_length r, numeral_most (number r))
+pub refusal_most : (n : ℕ) → length (refusal_text n) ≤ 29
+refusal_most n = omega (arith, refusal_length n, numeral_most n)
+
+pub refused_most : (r : Refusal) → length (refused_text r) ≤ 29
+refused_most r = refusal_most (number r)

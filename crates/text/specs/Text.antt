@@ -23,6 +23,10 @@ numeral_in (suc k) n = cond (ltb n 10) (digit n ∷ []) (numeral_in k (n / 10) +
 abbrev pub numeral : ℕ → List ℕ
 numeral n = numeral_in 20 n
 
--- a refusal: the word, its number and a newline
-unfoldable pub refusal_text : Refusal → List ℕ
-refusal_text r = ascii "refused " ++ numeral (number r) ++ ascii "\n"
+-- a refusal number: the word, the number and a newline
+unfoldable pub refusal_text : ℕ → List ℕ
+refusal_text n = ascii "refused " ++ numeral n ++ ascii "\n"
+
+-- a refusal, by its number
+abbrev pub refused_text : Refusal → List ℕ
+refused_text r = refusal_text (number r)

@@ -3,7 +3,7 @@
 
 ghost use Rattle.std.specs.Prelude.{◌≡◌, ◌++◌, ◌≤◌, length};
 ghost use Rattle.bigendian.specs.Buffers.{at_front};
-ghost use Rattle.text.specs.Text.{numeral, refusal_text};
+ghost use Rattle.text.specs.Text.{numeral, refusal_text, refused_text};
 
 use instants::Refusal;
 
@@ -46,13 +46,22 @@ pub fn put_counted(word: &[u8], n: u64, buffer: &mut [u8]) -> usize
     end + put_numeral(n, &mut buffer[end..])
 }
 
-// Puts a refusal's text at the front of the buffer and returns its length.
-pub fn refuse(refusal: Refusal, buffer: &mut [u8]) -> usize
-    requires { length (refusal_text refusal) ≤ length buffer.old }
-    ensures size { result ≡ length (refusal_text refusal) }
-    ensures buffer { buffer.new ≡ at_front (refusal_text refusal) buffer.old }
+// Puts the text of a refusal number at the front of the buffer and returns its length.
+pub fn refuse(number: u32, buffer: &mut [u8]) -> usize
+    requires { length (refusal_text number) ≤ length buffer.old }
+    ensures size { result ≡ length (refusal_text number) }
+    ensures buffer { buffer.new ≡ at_front (refusal_text number) buffer.old }
 {
-    let end = put_counted(b"refused ", u64::from(u32::from(refusal)), buffer);
+    let end = put_counted(b"refused ", number as u64, buffer);
     buffer[end] = b'\n';
     end + 1
+}
+
+// The same of a refusal.
+pub fn refuse_by(refusal: Refusal, buffer: &mut [u8]) -> usize
+    requires { length (refused_text refusal) ≤ length buffer.old }
+    ensures size { result ≡ length (refused_text refusal) }
+    ensures buffer { buffer.new ≡ at_front (refused_text refusal) buffer.old }
+{
+    refuse(u32::from(refusal), buffer)
 }

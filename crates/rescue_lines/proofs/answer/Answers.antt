@@ -4,7 +4,7 @@ use lib.ListN.{length-replicate}
 use Rattle.bigendian.specs.Buffers.{at_front}
 use Rattle.bigendian.proofs.Buffers.{front_none}
 use Rattle.rescue.specs.Claims.{listed}
-use Rattle.text.proofs.Numerals.{refusal_most}
+use Rattle.text.proofs.Numerals.{refused_most}
 use Rattle.rescue_lines.specs.Lines.{lines_text, totals_text}
 use Rattle.rescue_lines.proofs.Answers.{none_written, refusal_written, records_size, ranges_most, kept_most, records_written, list_long, report_written}
 use Rattle.rescue_lines.proofs.answer.Goals as goal
@@ -16,8 +16,8 @@ zeros = replicate 16920 0
 zeros_long : length zeros ≡ 16920
 zeros_long = length-replicate {A = ℕ} 16920 0
 
-pub refuse-requires : goal.refuse-requires
-refuse-requires c = omega (arith, c.told-report, refusal_most)
+pub refuse_by-requires : goal.refuse_by-requires
+refuse_by-requires c = omega (arith, c.told-report, refused_most)
 
 pub overflow_mul-result : goal.overflow_mul-result
 overflow_mul-result c = omega (arith, kept_most _ _ (sym c.in-Ok.ensures))
@@ -34,7 +34,7 @@ put_report-requires-clause-room c = omega (arith, c.told-report, ranges_most _ _
 pub returns-in-Err-clause-sizes : goal.returns-in-Err-clause-sizes
 returns-in-Err-clause-sizes c =
     let e = sym c.in-Err.ensures in
-    (sym (ap length (none_written _ _ e)), c.refuse.ensures.size ∙ ap length (refusal_written _ _ e))
+    (sym (ap length (none_written _ _ e)), c.refuse_by.ensures.size ∙ ap length (refusal_written _ _ e))
 
 pub returns-in-Err-clause-records : goal.returns-in-Err-clause-records
 returns-in-Err-clause-records c =
@@ -44,7 +44,7 @@ returns-in-Err-clause-records c =
 pub returns-in-Err-clause-report : goal.returns-in-Err-clause-report
 returns-in-Err-clause-report c =
     let old = c.args.report.now in
-    c.refuse.ensures.buffer ∙ ap (λ (t : List ℕ). at_front t old) (refusal_written _ _ (sym c.in-Err.ensures))
+    c.refuse_by.ensures.buffer ∙ ap (λ (t : List ℕ). at_front t old) (refusal_written _ _ (sym c.in-Err.ensures))
 
 pub returns-in-Ok-clause-sizes : goal.returns-in-Ok-clause-sizes
 returns-in-Ok-clause-sizes c =

@@ -1,15 +1,15 @@
 -- Each of the three ways out is a law of Answers.
 use Rattle.std.proofs.Common.{◌∙◌, ap, sym, ℕ, ℤ, List, length, arith, rules, SFits, w64, to_z-of_z}
 use Rattle.bigendian.specs.Buffers.{at_front}
-use Rattle.text.proofs.Numerals.{refusal_most}
+use Rattle.text.proofs.Numerals.{refused_most}
 use Rattle.run_line.specs.Answer.{day_run_text}
 use Rattle.run_line.proofs.Small.{step_small}
 use Rattle.run_line.proofs.Words.{bad_line}
 use Rattle.run_line.proofs.Answers.{bad, no_date, on_date}
 use Rattle.run_line.proofs.answer.Goals as goal
 
-pub refuse-requires : goal.refuse-requires
-refuse-requires c = omega (arith, refusal_most c.in-Err.r, c.fits-buffer)
+pub refuse_by-requires : goal.refuse_by-requires
+refuse_by-requires c = omega (arith, refused_most c.in-Err.r, c.fits-buffer)
 
 pub day_run-requires-clause-step : goal.day_run-requires-clause-step
 day_run-requires-clause-step c = step_small c.args.s.now c.in-Some.l (sym c.in-Some.ensures)
@@ -23,11 +23,11 @@ returns-in_default-clause-buffer c =
 
 pub returns-in-Err-clause-size : goal.returns-in-Err-clause-size
 returns-in-Err-clause-size c =
-    c.refuse.ensures.size ∙ ap length (no_date c.args.s.now c.in-Some.l (sym c.in-Some.ensures) c.in-Err.r (sym c.in-Err.ensures))
+    c.refuse_by.ensures.size ∙ ap length (no_date c.args.s.now c.in-Some.l (sym c.in-Some.ensures) c.in-Err.r (sym c.in-Err.ensures))
 
 pub returns-in-Err-clause-buffer : goal.returns-in-Err-clause-buffer
 returns-in-Err-clause-buffer c =
-    c.refuse.ensures.buffer
+    c.refuse_by.ensures.buffer
     ∙ ap (λ (b : List ℕ). at_front b c.args.buffer.now) (no_date c.args.s.now c.in-Some.l (sym c.in-Some.ensures) c.in-Err.r (sym c.in-Err.ensures))
 
 pub returns-in-Ok-clause-size : goal.returns-in-Ok-clause-size
