@@ -8,14 +8,16 @@ Starts from the functions that take a day to its date (STARTS) and follows every
 are printed with the way to them, and the status is 1. In the source the functions to start from have to be those whose contract cites a definition of DEFINITIONS. The
 source is read by the few forms of the language that we use; where it has another (an import of everything, a trait, a path that has two meanings), that is printed too.
 What a function does not call by name counts as called as well: the calls of its closures, functions that are given to others, methods of ours by their name alone, and
-where it has a `?`, each `from` of ours that `?` may ask.
+where it has a `?`, each `from` of ours that `?` may ask. Of the library the source is not read; in the compiled form its functions are followed like ours.
 
 With --self-test loops, recursions and other changes are planted in a copy, one by one, and each has to be answered as it should be."""
 
 import json
 import re
+import shutil
 import sys
 import tempfile
+from functools import cache
 from pathlib import Path
 
 DEFINITIONS = {"date_of", "date_after"}
@@ -317,14 +319,47 @@ class Program:
         return {"::".join(key) for key, function in self.functions.items() if DEFINITIONS & function.contract}
 
 
-def compiled(programs):
-    """For each function of what the compiler made, its loops and its calls."""
-    for name, made in (pair for program in programs for pair in program):
-        words = made["body"]
-        calls = [word["Call"][0] for word in words if isinstance(word, dict) and "Call" in word]
-        named = [head["Fn"][0] if isinstance(head, dict) and "Fn" in head else None for head in calls]
-        loops = [("compiled", "loop") for word in words if word == "Loop"]
-        yield name, (loops, [("compiled", callee or "call", callee and [callee]) for callee in named])
+@cache
+def library(crate):
+    """What the compiler made of a crate of the kit."""
+    path = Path(shutil.which("rt") or "bin/rt").resolve().parent.parent / f"rlibs/{crate}.rlib/toolchain/mir.json"
+    return dict(json.loads(path.read_text(encoding="utf-8"))) if path.exists() else {}
+
+
+class Compiled:
+    """The functions of what the compiler made, and of the kit's crates."""
+
+    def __init__(self, programs):
+        self.made = dict(pair for program in programs for pair in program)
+
+    def get(self, name):
+        """The loops and the calls of a function; None if there is no such function."""
+        made = self.made.get(name) or library(name.split("::")[0]).get(name)
+        if made is None:
+            return None
+        words = [word if isinstance(word, dict) else {word: None} for word in made["body"]]
+        impls = {impl["name"]: impl["methods"] for impl in made["generics"]["impls"]}
+        callees = [callee for word in words for callee in self.callees(word, impls)]
+        return [("compiled", "loop") for word in words if "Loop" in word], [("compiled", callee or "call", callee and [callee]) for callee in callees]
+
+    def callees(self, word, impls):
+        """The functions that a word calls; None for what is not followed. A function that is given an impl may call each method of it."""
+        if "Call" not in word:
+            return [None] if "CallV" in word else []
+        head = word["Call"][0]
+        if "Fn" in head:
+            return [head["Fn"][0], *self.given(head["Fn"][1].get("dicts", []), impls)]
+        if "Method" in head and "Given" in head["Method"][0]:
+            return self.given(head["Method"][2].get("dicts", []), impls)  # one of those that whoever calls this function gave
+        return [None]
+
+    def given(self, dicts, impls):
+        for one in dicts:
+            if "Impl" in one:
+                yield from impls.get(one["Impl"][0], [None])
+                yield from self.given(one["Impl"][2], impls)
+            elif "Given" not in one:
+                yield None
 
 
 def walk(functions, starts):
@@ -364,9 +399,9 @@ def check_source(root):
 
 
 def check_compiled(programs):
-    functions = dict(compiled(programs))
-    reached, wrong = walk(functions, LIBRARY_STARTS & set(functions))
-    return reached, wrong + [f"{name}: no such function" for name in sorted(LIBRARY_STARTS - set(functions))]
+    functions = Compiled(programs)
+    reached, wrong = walk(functions, LIBRARY_STARTS & set(functions.made))
+    return reached, wrong + [f"{name}: no such function" for name in sorted(LIBRARY_STARTS - set(functions.made))]
 
 
 COUNTED = "pub fn counted(n: u64) -> u64 { let mut k = n; while 365 < k { k = k - 365; } k }"
@@ -462,9 +497,17 @@ def planted_in_source(root, reached):
 
 
 def planted_in_compiled(programs, reached):
-    def changed(name, words, other=None):
-        """The programs with words before a function's body, or with another name of it."""
-        return [[[other or at, {**made, "body": words + made["body"]}] if at == name else [at, made] for at, made in program] for program in programs]
+    ours = Compiled(programs).made
+    programs = [*programs, [[name, library(name.split("::")[0])[name]] for name in reached if name not in ours]]
+
+    def changed(name, words, other=None, methods=None):
+        """The programs with words before a function's body, or with another name of it, or with an impl that has these methods."""
+
+        def one(at, made):
+            generics = {**made["generics"], "impls": [{**impl, "methods": methods or impl["methods"]} for impl in made["generics"]["impls"]]}
+            return [other or at, {**made, "body": words + made["body"], "generics": generics}]
+
+        return [[one(at, made) if at == name else [at, made] for at, made in program] for program in programs]
 
     for name in reached:
         for said, words in (
@@ -472,10 +515,14 @@ def planted_in_compiled(programs, reached):
             ("a recursion", ["Seq", {"Call": [{"Fn": [name, {}]}, [], {}]}]),
             ("is no function of ours", ["Seq", {"Call": [{"Fn": ["core::other", {}]}, [], {}]}]),
             ("is no function of ours", ["Seq", {"Call": [{"Opd": {}}, [], {}]}]),
+            ("is no function of ours", ["Seq", {"CallV": [{}, {}, [], {}]}]),
+            ("is no function of ours", ["Seq", {"Call": [{"Fn": ["calendar::leap", {"dicts": [{"Impl": ["other", [], []]}]}]}, [], {}]}]),
         ):
             yield f"{words} in {name}", any(said in wrong for wrong in check_compiled(changed(name, words))[1])
         if name in LIBRARY_STARTS:
             yield f"no {name}", f"{name}: no such function" in check_compiled(changed(name, [], "other"))[1]
+    itself = "calendar::date_of"
+    yield f"{itself} by an impl that it gives", any("a recursion" in wrong for wrong in check_compiled(changed(itself, [], methods=[itself]))[1])
 
 
 def main():
