@@ -10,3 +10,4 @@ pub mod Rescued
 pub mod Compared
 pub mod Exactness
 pub mod Distance
+pub mod Standing
