@@ -68,5 +68,5 @@ pub extern "C" fn enfys_nutation_refusal(day: i64, micros: u64) -> u32
 pub extern "C" fn enfys_nutation_probes(day: i64, micros: u64) -> u64
     ensures { result ≡ probes_of day micros }
 {
-    row_places::probes_of(Instant { day, micros }).unwrap_or(0)
+    row_places::probes_of(Instant { day, micros })
 }

@@ -69,5 +69,5 @@ pub extern "C" fn enfys_nutation_rows_refusal(rows: &[u8], day: i64, micros: u64
 pub extern "C" fn enfys_nutation_rows_probes(rows: &[u8], day: i64, micros: u64) -> u64
     ensures { result ≡ probes_rows_of rows.now day micros }
 {
-    row_places::probes_rows_of(rows, Instant { day, micros }).unwrap_or(0)
+    row_places::probes_rows_of(rows, Instant { day, micros })
 }

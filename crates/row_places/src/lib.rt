@@ -129,7 +129,7 @@ fn probes_with(t: Table, at: Instant) -> Result<u64, Refusal>
 }
 
 // The probes at an instant with the built-in rows, or refusal 8 or 9.
-pub fn probes_of(at: Instant) -> Result<u64, Refusal>
+pub fn try_probes_of(at: Instant) -> Result<u64, Refusal>
     ensures answer { result ≡ probes_answer built_in at.day at.micros }
     ensures number { result_unwrap_or result 0 ≡ probes_of at.day at.micros }
 {
@@ -137,10 +137,24 @@ pub fn probes_of(at: Instant) -> Result<u64, Refusal>
     probes_with(Table { bytes: &s }, at)
 }
 
+// The same, or 0 beside a refusal.
+pub fn probes_of(at: Instant) -> u64
+    ensures { result ≡ probes_of at.day at.micros }
+{
+    try_probes_of(at).unwrap_or(0)
+}
+
 // The probes at an instant with the rows in the bytes s, or refusal 21 to 24, then 8 or 9.
-pub fn probes_rows_of(s: &[u8], at: Instant) -> Result<u64, Refusal>
+pub fn try_probes_rows_of(s: &[u8], at: Instant) -> Result<u64, Refusal>
     ensures answer { result ≡ probes_rows_answer s.now at.day at.micros }
     ensures number { result_unwrap_or result 0 ≡ probes_rows_of s.now at.day at.micros }
 {
     probes_with(Table::read(s)?, at)
+}
+
+// The same, or 0 beside a refusal.
+pub fn probes_rows_of(s: &[u8], at: Instant) -> u64
+    ensures { result ≡ probes_rows_of s.now at.day at.micros }
+{
+    try_probes_rows_of(s, at).unwrap_or(0)
 }

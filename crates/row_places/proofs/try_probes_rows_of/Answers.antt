@@ -6,7 +6,7 @@ use Rattle.instants.specs.declared.refusal.Refusal.{Refusal}
 use Rattle.row_bytes.specs.Form.{table_in}
 use Rattle.row_places.specs.Inner.{probes_answer, probes_rows_answer}
 use Rattle.row_places.proofs.Probes.{rows_refused, rows_looked_up, rows_answer_number}
-use Rattle.row_places.proofs.probes_rows_of.Goals as goal
+use Rattle.row_places.proofs.try_probes_rows_of.Goals as goal
 
 pub returns-in_err-read-clause-answer : goal.returns-in_err-read-clause-answer
 returns-in_err-read-clause-answer c =

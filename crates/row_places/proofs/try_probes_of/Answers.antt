@@ -10,7 +10,7 @@ use Rattle.row_bytes.proofs.Round.{built_in_lent, built_in_back}
 use Rattle.row_places.specs.Lookup.{probes_of}
 use Rattle.row_places.specs.Inner.{probes_answer}
 use Rattle.row_places.proofs.Probes.{answer_number}
-use Rattle.row_places.proofs.probes_of.Goals as goal
+use Rattle.row_places.proofs.try_probes_of.Goals as goal
 
 pub invariant_of-probes_with : goal.invariant_of-probes_with
 invariant_of-probes_with c = record { lent = subst Lent (sym c.built_in-s.ensures) built_in_lent }
