@@ -1,2 +1,3 @@
--- Each call is proved from its service's contract by the check alone. Literals names what it may open for that.
+-- Each call is proved from its service's contract by the check alone. Literals and Numbers name what it may open and use for that.
 pub mod Literals
+pub mod Numbers

@@ -5,6 +5,7 @@ ghost use Rattle.compare.specs.Compare.{compare_of, list_after, entries_number_o
 use crate::number;
 
 // Writes the list of differences at the front of a buffer. Returns the refusal number.
+#[tactic(auto, using(instants::proofs::FirstRefusal::first_checked, compare::proofs::Promises::compare_refusal))]
 #[unsafe(no_mangle)]
 pub extern "C" fn enfys_compare(s: &[u8], t: &[u8], list: &mut [u8]) -> u32
     ensures refusal { result ≡ compare_refusal_of (compare_of s.now t.now (length list.old)) }

@@ -6,6 +6,7 @@ use crate::number;
 use record::Record;
 
 // Writes a record into the first thirty bytes of the buffer. Returns the refusal number.
+#[tactic(auto, using(crate::proofs::Numbers::write_number))]
 #[unsafe(no_mangle)]
 pub extern "C" fn enfys_record_write(
     day: i64,

@@ -5,6 +5,7 @@ ghost use Rattle.rescue.specs.Rescue.{rescue_of, records_after, list_after, kept
 use crate::number;
 
 // Writes the kept records and the list of passed ranges at the fronts of two buffers. Returns the refusal number.
+#[tactic(auto, using(crate::proofs::Numbers::rescue_number))]
 #[unsafe(no_mangle)]
 pub extern "C" fn enfys_rescue(s: &[u8], records: &mut [u8], list: &mut [u8]) -> u32
     ensures refusal { result ≡ rescue_refusal_of (rescue_of s.now (length records.old) (length list.old)) }

@@ -6,6 +6,7 @@ use crate::number;
 use instants::Instant;
 
 // Writes `count` records, `step` microseconds apart, into the front of the buffer. Returns the refusal number.
+#[tactic(auto, using(crate::proofs::Numbers::run_number))]
 #[unsafe(no_mangle)]
 pub extern "C" fn enfys_run_write(
     day: i64,
