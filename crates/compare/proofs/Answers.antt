@@ -147,7 +147,7 @@ module _ (s t : List ℕ) where
         let r = (none_both (file_cases t) (case BufferShort (ltb n (entry_length * length (entries_of s t))) ∷ []) rest.1).1 in
         ltb-false n (entry_length * length (entries_of s t)) r.0
 
-    given_number : length (entries_of s t) ≡ k
+    pub given_number : length (entries_of s t) ≡ k
     given_number = let g : ◌≡◌ {A = Result ℕ Refusal} (Ok (length (entries_of s t))) (Ok k) = none.1 in cc
 
     pub given_few : k ≤ 4368

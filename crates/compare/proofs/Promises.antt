@@ -19,7 +19,7 @@ use Rattle.files.proofs.Refused.{file_refusal, file_is}
 use Rattle.files.specs.Claims.{Each, AcceptedRecord}
 use Rattle.files.proofs.Records.{both, file_none, file_rises, file_recorded}
 use Rattle.compare.specs.declared.Entry.{Entry}
-use Rattle.compare.specs.Walk.{entry, equal, same_numbers, walk}
+use Rattle.compare.specs.Walk.{side_number, entry, equal, same_numbers, walk}
 use Rattle.compare.specs.Compare.{records_of, entries_of, entry_length, list_bytes, compare_cases, compare_of, list_after, entries_number_of, compare_refusal_of}
 use Rattle.compare.specs.Inner.{records_from}
 use Rattle.compare.specs.Claims.{There, Nowhere, one_instant, record_of_instant, entry_of_instant, exchanged, listed}
@@ -68,6 +68,12 @@ unfolding list_after
 compare_list s t list z =
     none_answered (λ _. list) (compare_cases s t (length list)) _ (first_none _ (sym (compare_refusal s t (length list)) ∙ z))
     ∙ front_is (list_bytes (entries_of s t)) list _ (list_length (entries_of s t))
+
+-- ---- sides
+
+-- PROMISE. The entries that are written with 1, 2 and 3 have sides of these numbers.
+pub sides_numbered : (d : ℤ) (m : ℕ) (x y z : ℤ) → (side_number (entry 1 d m x y z).side ≡ 1) × (side_number (entry 2 d m x y z).side ≡ 2) × (side_number (entry 3 d m x y z).side ≡ 3)
+sides_numbered d m x y z = (refl, refl, refl)
 
 -- ---- records
 

@@ -1,5 +1,5 @@
 -- Entries read back from their bytes: each number fits its field, differences since they are of numbers of 32 bits. Assumes nothing.
-use Prim.Native.Nat.{ℕ, ◌^◌, ◌<◌}
+use Prim.Native.Nat.{ℕ, suc, ◌^◌, ◌<◌}
 use mathlib.Core.Path.{◌≡◌, refl, ap, ap₂, ◌∙◌}
 use mathlib.Core.Bool.{Bool, true, false, cond}
 use mathlib.Core.List.{List, [], ◌∷◌, ◌++◌, append_assoc}
@@ -19,7 +19,7 @@ use Rattle.compare.specs.declared.Side.{Side}
 use Rattle.compare.specs.declared.Side.TheVariants.{FirstOnly, SecondOnly, InBoth}
 use Rattle.compare.specs.Walk.{side_number, side_of, alone, changed, same_numbers, walk}
 use Rattle.compare.specs.Compare.{entry_length, side_field, day_field, micros_field, ut1_field, lod_field, rate_field, entry_bytes, list_bytes}
-use Rattle.compare.specs.Claims.{entry_in, listed}
+use Rattle.compare.specs.Claims.{is_side, entry_in, listed}
 use Rattle.compare.proofs.Entries.{entry_length_lem}
 use Rattle.compare.proofs.Numbers.{difference_fits}
 use Rattle.compare.proofs.Walks.{walk_ind}
@@ -36,6 +36,11 @@ side_known FirstOnly = refl
 side_known SecondOnly = refl
 side_known InBoth = refl
 
+side_is : (s : Side) → is_side (side_number s) ≡ true
+side_is FirstOnly = refl
+side_is SecondOnly = refl
+side_is InBoth = refl
+
 -- ---- an entry whose numbers fit their fields
 
 record FittingEntry (e : Entry) : Type 0 where
@@ -49,9 +54,15 @@ module _ (e : Entry) (t : List ℕ) (f : FittingEntry e) where
   abbrev l : List ℕ
   l = entry_bytes e ++ t
 
-  side_back : side_of (field_at l side_field) ≡ e.side
+  side_read : field_at l side_field ≡ side_number e.side
   unfolding entry_bytes
-  side_back = ap side_of (number_back l side_field _ (record { starts = refl; is = refl }) (side_fits e.side)) ∙ side_known e.side
+  side_read = number_back l side_field _ (record { starts = refl; is = refl }) (side_fits e.side)
+
+  side_back : side_of (field_at l side_field) ≡ e.side
+  side_back = ap side_of side_read ∙ side_known e.side
+
+  side_there : is_side (field_at l side_field) ≡ true
+  side_there = ap is_side side_read ∙ side_is e.side
 
   day_back : signed_at l day_field ≡ e.day
   unfolding entry_bytes
@@ -86,9 +97,10 @@ module _ (e : Entry) (t : List ℕ) (f : FittingEntry e) where
 list_back : (es : List Entry) (t : List ℕ) → Each FittingEntry es → listed (length es) (list_bytes es ++ t) ≡ es
 list_back [] t h = refl
 list_back (e ∷ es) t h =
-    ap (λ (l : List ℕ). entry_in l ∷ listed (length es) (drop entry_length l)) (append_assoc (entry_bytes e) (list_bytes es) t)
+    ap (listed (suc (length es))) (append_assoc (entry_bytes e) (list_bytes es) t)
+    ∙ (ap (λ (b : Bool). cond b (entry_in (entry_bytes e ++ (list_bytes es ++ t)) ∷ listed (length es) (drop entry_length (entry_bytes e ++ (list_bytes es ++ t)))) []) (side_there e (list_bytes es ++ t) h.0)
     ∙ ap₂ (λ (x : Entry) (xs : List Entry). x ∷ xs) (entry_back e (list_bytes es ++ t) h.0)
-    (ap (listed (length es)) (drop_at (entry_bytes e) (list_bytes es ++ t) entry_length (entry_length_lem e)) ∙ list_back es t h.1)
+    (ap (listed (length es)) (drop_at (entry_bytes e) (list_bytes es ++ t) entry_length (entry_length_lem e)) ∙ list_back es t h.1))
 
 -- ---- the entries of a walk
 

@@ -1,5 +1,5 @@
 -- The words of what is proved of a comparison (proofs/).
-use Rattle.std.specs.Prelude.{ℕ, zero, suc, Bool, cond, ◌&&◌, List, [], ◌∷◌, eqb, ℤ, neg_ℤ, drop}
+use Rattle.std.specs.Prelude.{ℕ, zero, suc, Bool, cond, ◌&&◌, ◌||◌, List, [], ◌∷◌, eqb, ℤ, neg_ℤ, drop}
 use Rattle.bigendian.specs.Fields.{field_at, signed_at}
 use Rattle.record.specs.declared.Record.{Record}
 use Rattle.compare.specs.declared.Entry.{Entry}
@@ -47,7 +47,11 @@ exchanged e = record { side = other_side e.side; day = e.day; micros = e.micros;
 abbrev pub entry_in : List ℕ → Entry
 entry_in l = entry (field_at l side_field) (signed_at l day_field) (field_at l micros_field) (signed_at l ut1_field) (signed_at l lod_field) (signed_at l rate_field)
 
--- the first n entries of a list, read from its bytes
+-- a number is that of a side
+abbrev pub is_side : ℕ → Bool
+is_side n = eqb n 1 || (eqb n 2 || eqb n 3)
+
+-- the first n entries of a list, read from its bytes, up to one whose first byte is no side's number
 abbrev pub listed : ℕ → List ℕ → List Entry
 listed zero l = []
-listed (suc n) l = entry_in l ∷ listed n (drop entry_length l)
+listed (suc n) l = cond (is_side (field_at l side_field)) (entry_in l ∷ listed n (drop entry_length l)) []

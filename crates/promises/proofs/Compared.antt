@@ -2,7 +2,7 @@
 use mathlib.Core.Path.{refl}
 use Rattle.files.specs.Files.{answers_in, file_cases, file_of}
 use Rattle.files.proofs.Records.{file_recorded, file_length, file_in_order}
-use Rattle.compare.proofs.Promises.{compare_number, compare_list, same_compared, compared_files, entries_exchanged, entries_empty, entries_in_order, entries_found, entries_read_back, entries_room, listed_neither, listed_first, listed_second, listed_equal, listed_changed}
+use Rattle.compare.proofs.Promises.{compare_number, compare_list, same_compared, compared_files, entries_exchanged, entries_empty, entries_in_order, entries_found, entries_read_back, entries_room, listed_neither, listed_first, listed_second, listed_equal, listed_changed, sides_numbered}
 use Rattle.compare.proofs.Examples.{before, after, twice, one_byte, falling_unread, three_entries, three_fit, refused_in_order, refused_unread, falling, twice_same}
 use Rattle.promises.specs.Compared.{ComparedExactly}
 
@@ -20,6 +20,7 @@ compared_exactly = record {
   in_second_only = λ s t rs qs f. listed_second s t rs qs f.first f.second;
   in_both_equal = λ s t rs qs f. listed_equal s t rs qs f.first f.second;
   in_both_changed = λ s t rs qs f. listed_changed s t rs qs f.first f.second;
+  sides_numbered = sides_numbered;
   entries_rise = λ s t rs qs f. entries_in_order s t rs qs f.first f.second;
   entries_there = λ s t rs qs f. entries_found s t rs qs f.first f.second;
   same_file = same_compared;

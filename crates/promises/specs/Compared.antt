@@ -5,7 +5,7 @@ use Rattle.record.specs.declared.Record.{Record}
 use Rattle.record.specs.Records.{read_of, record_day_of, record_micros_of}
 use Rattle.files.specs.Files.{file_of, file_refusal_of}
 use Rattle.compare.specs.declared.Entry.{Entry}
-use Rattle.compare.specs.Walk.{entry}
+use Rattle.compare.specs.Walk.{side_number, entry}
 use Rattle.compare.specs.Compare.{entries_of, list_bytes, compare_of, list_after, entries_number_of, compare_refusal_of}
 use Rattle.compare.specs.Claims.{There, Nowhere, record_of_instant, entry_of_instant, exchanged, listed}
 use Rattle.promises.specs.AnyInput.{instant_before}
@@ -37,6 +37,8 @@ pub record ComparedExactly : Type 0 where
   pub in_both_changed : (s t : List ℕ) (rs qs : List Record) → Files s t rs qs → (d : ℤ) (m : ℕ) (r q : Record) → record_of_instant d m rs ≡ There r → record_of_instant d m qs ≡ There q
       → ((r.ut1 ≡ q.ut1) × (r.lod ≡ q.lod) × (r.rate ≡ q.rate) → ⊥)
       → entry_of_instant d m (entries_of s t) ≡ There (entry 3 d m (q.ut1 -ℤ r.ut1) (q.lod -ℤ r.lod) (q.rate -ℤ r.rate))
+  -- the numbers of these sides
+  pub sides_numbered : (d : ℤ) (m : ℕ) (x y z : ℤ) → (side_number (entry 1 d m x y z).side ≡ 1) × (side_number (entry 2 d m x y z).side ≡ 2) × (side_number (entry 3 d m x y z).side ≡ 3)
   -- entries rise by instant, so each entry of the list is the one at its instant
   pub entries_rise : (s t : List ℕ) (rs qs : List Record) → Files s t rs qs → (k : ℕ) (e f : Entry) (more : List Entry) → drop k (entries_of s t) ≡ e ∷ f ∷ more
       → instant_before e.day e.micros f.day f.micros ≡ true
