@@ -122,11 +122,14 @@ module _ (n : ℕ) (h : 2 ^ 31 ≤ n) (k : n < 256 ^ 4) where
       let e : 256 ^ 4 - suc n ≡ 256 ^ 4 - 1 - n = omega arith in
       ap (λ (z : ℤ). z -ℤ pos (256 ^ 4)) (to_z_pos w64 p) ∙ simp (lt-ltb n (256 ^ 4) k) (ap negsuc e)
 
-  minus_32 : SFits w32 (negsuc (256 ^ 4 - 1 - n))
+  pub minus_32 : SFits w32 (negsuc (256 ^ 4 - 1 - n))
   minus_32 = record { sfits = omega arith }
 
   minus_64 : SFits w64 (negsuc (256 ^ 4 - 1 - n))
   minus_64 = sfits_widen tt minus_32
+
+  pub minus_fits : SFits w64 (to_z w64 n -ℤ pos (256 ^ 4))
+  minus_fits = rw is_minus minus_64
 
   pub minus_read : to_z w64 (of_z w64 (to_z w64 n -ℤ pos (256 ^ 4))) ≡ negsuc (256 ^ 4 - 1 - n)
   minus_read = rw is_minus (to_z-of_z minus_64)

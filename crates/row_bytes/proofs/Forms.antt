@@ -33,7 +33,7 @@ none_formed s h = record {
   version = eqb-true _ _ (not-false _ h.1.1.1.1.1.0);
 }
 
-formed : (s : List ℕ) (u : ⊤) → check (form_cases s) ≡ Ok u → Formed s
+pub formed : (s : List ℕ) (u : ⊤) → check (form_cases s) ≡ Ok u → Formed s
 formed s u e = none_formed s (passed_none (form_cases s) u e)
 
 -- accepted bytes

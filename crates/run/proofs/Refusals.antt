@@ -61,7 +61,7 @@ module _ (d : ℤ) (m count step n : ℕ) (h : Counted count step) where
     past = lt_z last_day (later_day d m ((count - 1) * step))
 
     -- after an accepted start, the last instant and the buffer are tested
-    refused_later : check (end_cases d m count step n) ≡ check (run_cases d m count step n)
+    pub refused_later : check (end_cases d m count step n) ≡ check (run_cases d m count step n)
     refused_later = answered_too Err (check (end_cases d m count step n)) d m a ∙ sym at_start
 
     -- the last instant is accepted unless it is past the last day

@@ -8,6 +8,7 @@ use Prim.Native.Nat.{ℕ, ◌*◌, ◌≤◌, ◌<◌}
 use native.Mathlib.Nat.{le_of_lt}
 use native.Mathlib.Omega.{arith}
 use lib.Dec.{T, lit≤, lit<}
+use lib.ListN.{get_or}
 use lib.IntN.{ℤ, pos, nat_abs}
 use lib.Ieee.{Float, of_int}
 use Rattle.instants.specs.Limits.{day_micros}
@@ -70,29 +71,53 @@ module _ {t : Float} (h : Bound 7 t) where
 abbrev pub Limited : Float → Type 0
 Limited x = Bound 15_000_000 x
 
-pub record Summed (xs : List Float) : Type 0 where
-  pub most : (k : Doodson) → T (all_in_range k) → Bound 1_080_000_000 (sum_of_products k xs)
-  pub zero : sum_of_products (doodson (pos 0) (pos 0) (pos 0) (pos 0) (pos 0) (pos 0)) xs ≡ zero64
-
 multiplier : (z : ℤ) → T (in_range z) → Bound 12 (whole z)
 multiplier z h = number 12 z tt (range_size z h)
 
-summed : {x1 x2 x3 x4 x5 x6 : Float} → Limited x1 → Limited x2 → Limited x3 → Limited x4 → Limited x5 → Limited x6 → Summed (x1 ∷ x2 ∷ x3 ∷ x4 ∷ x5 ∷ x6 ∷ [])
+pub sum_bound : (k : Doodson) {x1 x2 x3 x4 x5 x6 : Float} → T (all_in_range k)
+    → Limited x1 → Limited x2 → Limited x3 → Limited x4 → Limited x5 → Limited x6
+    → Bound 1_080_000_000 (sum_of_products k (x1 ∷ x2 ∷ x3 ∷ x4 ∷ x5 ∷ x6 ∷ []))
 unfolding sum_of_products
+sum_bound k h x1 x2 x3 x4 x5 x6 =
+    let e : Each k = each k h in
+    added tt (added tt (added tt (added tt (added tt (added tt (known {B = 0} {x = zero64} tt)
+    (multiplied tt (multiplier k.k1 e.k1) x1))
+    (multiplied tt (multiplier k.k2 e.k2) x2))
+    (multiplied tt (multiplier k.k3 e.k3) x3))
+    (multiplied tt (multiplier k.k4 e.k4) x4))
+    (multiplied tt (multiplier k.k5 e.k5) x5))
+    (multiplied tt (multiplier k.k6 e.k6) x6)
+
+pub zero_sum : {x1 x2 x3 x4 x5 x6 : Float}
+    → Limited x1 → Limited x2 → Limited x3 → Limited x4 → Limited x5 → Limited x6
+    → sum_of_products (doodson (pos 0) (pos 0) (pos 0) (pos 0) (pos 0) (pos 0)) (x1 ∷ x2 ∷ x3 ∷ x4 ∷ x5 ∷ x6 ∷ []) ≡ zero64
+unfolding sum_of_products
+zero_sum h1 h2 h3 h4 h5 h6 = rw (zero_product h1, zero_product h2, zero_product h3, zero_product h4, zero_product h5, zero_product h6)
+
+-- six numbers, each of at most 15 million, and what follows for their sums
+pub record Summed (xs : List Float) : Type 0 where
+  pub x1 : Limited (get_or xs 0 zero64)
+  pub x2 : Limited (get_or xs 1 zero64)
+  pub x3 : Limited (get_or xs 2 zero64)
+  pub x4 : Limited (get_or xs 3 zero64)
+  pub x5 : Limited (get_or xs 4 zero64)
+  pub x6 : Limited (get_or xs 5 zero64)
+  pub most : (k : Doodson) → T (all_in_range k) → Bound 1_080_000_000 (sum_of_products k xs)
+  pub zero : sum_of_products (doodson (pos 0) (pos 0) (pos 0) (pos 0) (pos 0) (pos 0)) xs ≡ zero64
+
+pub summed : {x1 x2 x3 x4 x5 x6 : Float} → Limited x1 → Limited x2 → Limited x3 → Limited x4 → Limited x5 → Limited x6 → Summed (x1 ∷ x2 ∷ x3 ∷ x4 ∷ x5 ∷ x6 ∷ [])
 summed x1 x2 x3 x4 x5 x6 = record {
-  most = λ k h.
-      let e : Each k = each k h in
-      added tt (added tt (added tt (added tt (added tt (added tt (known {B = 0} {x = zero64} tt)
-      (multiplied tt (multiplier k.k1 e.k1) x1))
-      (multiplied tt (multiplier k.k2 e.k2) x2))
-      (multiplied tt (multiplier k.k3 e.k3) x3))
-      (multiplied tt (multiplier k.k4 e.k4) x4))
-      (multiplied tt (multiplier k.k5 e.k5) x5))
-      (multiplied tt (multiplier k.k6 e.k6) x6);
-  zero = rw (zero_product x1, zero_product x2, zero_product x3, zero_product x4, zero_product x5, zero_product x6);
+  x1 = x1;
+  x2 = x2;
+  x3 = x3;
+  x4 = x4;
+  x5 = x5;
+  x6 = x6;
+  most = λ k h. sum_bound k h x1 x2 x3 x4 x5 x6;
+  zero = zero_sum x1 x2 x3 x4 x5 x6;
 }
 
--- ---- the Doodson arguments
+-- ---- the Doodson arguments: each of the twelve is at most 15 million in size
 pub record Bounds (a : Arguments) : Type 0 where
   pub degrees : Summed a.degrees
   pub cycles : Summed a.cycles
