@@ -2,6 +2,8 @@
 // input is a few records, some of them damaged.
 #![tactic(auto)]
 
+ghost use Rattle.std.specs.Prelude.{◌≤◌, length};
+
 use std::io::{Read, Stdin};
 
 // One byte more than is accepted, which decides.
@@ -9,7 +11,9 @@ const MOST: usize = 65_537;
 
 // Reads standard input until s is full, the input ends or a read fails, and returns the part of s that it filled. No index is saved: how far it has come is
 // where the next read begins.
-fn read_full(mut input: Stdin, s: &mut [u8]) -> &[u8] {
+fn read_full(mut input: Stdin, s: &mut [u8]) -> &[u8]
+    ensures { length result.now ≤ length s.old }
+{
     let mut n = 0;
     while n < s.len() {
         let Ok(got) = input.read(&mut s[n..]) else {

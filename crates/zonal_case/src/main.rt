@@ -4,7 +4,8 @@
 use instants::Instant;
 use std::io;
 
-// Our number, the routine's as it prints it and rounded to our unit, and the limit: the distance stays below it, so that the rounding counts.
+// Our number, the routine's as it prints it and rounded to our unit, and the limit: the distance stays below it, so that the rounding counts. Each part is a
+// write of its own.
 fn compare(
     rt: &impl Print,
     name: &str,
@@ -19,7 +20,11 @@ fn compare(
     } else {
         "NOT within"
     };
-    println!(rt; "{name}{ours}{printed}{distance} apart, {within} {limit}")
+    print!(rt; "{name}")?;
+    print!(rt; "{ours}")?;
+    print!(rt; "{printed}{distance}")?;
+    print!(rt; " apart, {within} ")?;
+    println!(rt; "{limit}")
 }
 
 // The three numbers, each compared.
