@@ -101,6 +101,7 @@ impl Record {
     }
 
     // Writes the record at the front of the buffer, or leaves the buffer as it was beside a refusal.
+    #[inline(always)]
     pub fn write(self, buffer: &mut [u8]) -> Result<(), Refusal>
         ensures refusal { result ≡ check (write_cases self.day self.micros (length buffer.old)) }
         ensures buffer { buffer.new ≡ written self.day self.micros self.ut1 self.lod self.rate buffer.old }

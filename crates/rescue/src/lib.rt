@@ -64,7 +64,8 @@ impl Range {
     }
 }
 
-// The next place, from `from` on, at which a record stands, or the end.
+// The next place, from `from` on, at which a record stands, or the end. By itself, so that the compiler's loop over places holds nothing else.
+#[inline(never)]
 fn next_record(s: &[u8], from: usize) -> usize
     requires { from ≤ length s.now }
     ensures { Hop s.now from result }
