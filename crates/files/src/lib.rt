@@ -75,7 +75,8 @@ pub fn check(s: &[u8]) -> Result<(), Refusal>
     let mut rise = true;
     let mut last: u64 = 0;
     for bytes in s.chunks_exact(LENGTH) {
-        let moment = record::read(bytes)?.instant().moment();
+        let r = record::read(bytes)?;
+        let moment = r.instant().moment();
         rise &= last < moment;
         last = moment;
     }

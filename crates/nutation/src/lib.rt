@@ -191,5 +191,6 @@ pub fn nutation_of(at: Instant) -> Result<Offsets, Refusal>
 pub fn nutation_rows_of(s: &[u8], at: Instant) -> Result<Offsets, Refusal>
     ensures { result ≡ nutation_rows_of s.now at.day at.micros }
 {
-    nutation_with(Table::read(s)?, at)
+    let t = Table::read(s)?;
+    nutation_with(t, at)
 }

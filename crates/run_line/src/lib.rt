@@ -38,6 +38,6 @@ pub fn answer(s: &[u8], buffer: &mut [u8; 2880]) -> usize
     };
     match date.day_number() {
         Ok(day) => day_run(day, l.count, l.step, buffer),
-        Err(r) => text::refuse_by(r, buffer),
+        Err(refused) => text::refuse_by(refused, buffer),
     }
 }

@@ -14,20 +14,20 @@ loop-bytes-init c =
     let e : c.into_iter-bytes-iterator.result.rest.now ≡ c.args.s.now = search rules in
     record { size = search rules; decided = left_all _ (sym c.wrong_length.ensures ∙ c.if-wrong_length.false) ∙ ap (λ (l : List ℕ). left true 0 (answers_in l)) (sym e) }
 
-pub returns-in_err-read : goal.returns-in_err-read
-returns-in_err-read c =
-    let n : c.read.result ≡ Err c.in_err-read.field-0.0 = search rules in
+pub returns-in_err-r : goal.returns-in_err-r
+returns-in_err-r c =
+    let n : c.read.result ≡ Err c.in_err-r.field-0.0 = search rules in
     let p = err_from_is_err_and c.from_residual.result c.from_residual.ensures.1 in
     p.1 ∙ (ap Err p.2 ∙ sym (c.loop-bytes.invariant.decided ∙ left_refused _ _ _ c.in-Some.ensures.steps.1.0 (c.in-Some.ensures.steps.1.1 ∙ c.loop-bytes.invariant.size) _ _ _ (sym c.read.ensures ∙ n)))
 
 pub moment-moment-requires : goal.moment-moment-requires
 moment-moment-requires c =
-    let e : c.read.result ≡ Ok c.in_ok-read.field-0 = search rules in
+    let e : c.read.result ≡ Ok c.in_ok-r.r = search rules in
     rw c.instant.ensures (read_accepted _ _ (sym c.read.ensures ∙ e))
 
 pub loop-bytes-preserved : goal.loop-bytes-preserved
 loop-bytes-preserved c =
-    let e : c.read.result ≡ Ok c.in_ok-read.field-0 = search rules in
+    let e : c.read.result ≡ Ok c.in_ok-r.r = search rules in
     let m = rw c.instant.ensures at c.moment-moment.ensures in
     record {
       size = c.in-Some.ensures.steps.0 ∙ c.loop-bytes.invariant.size;

@@ -9,7 +9,7 @@ use Rattle.run_line.proofs.Answers.{bad, no_date, on_date}
 use Rattle.run_line.proofs.answer.Goals as goal
 
 pub refuse_by-requires : goal.refuse_by-requires
-refuse_by-requires c = omega (arith, refused_most c.in-Err.r, c.fits-buffer)
+refuse_by-requires c = omega (arith, refused_most c.in-Err.refused, c.fits-buffer)
 
 pub day_run-requires-clause-step : goal.day_run-requires-clause-step
 day_run-requires-clause-step c = step_small c.args.s.now c.in-Some.l (sym c.in-Some.ensures)
@@ -23,12 +23,12 @@ returns-in_default-clause-buffer c =
 
 pub returns-in-Err-clause-size : goal.returns-in-Err-clause-size
 returns-in-Err-clause-size c =
-    c.refuse_by.ensures.size ∙ ap length (no_date c.args.s.now c.in-Some.l (sym c.in-Some.ensures) c.in-Err.r (sym c.in-Err.ensures))
+    c.refuse_by.ensures.size ∙ ap length (no_date c.args.s.now c.in-Some.l (sym c.in-Some.ensures) c.in-Err.refused (sym c.in-Err.ensures))
 
 pub returns-in-Err-clause-buffer : goal.returns-in-Err-clause-buffer
 returns-in-Err-clause-buffer c =
     c.refuse_by.ensures.buffer
-    ∙ ap (λ (b : List ℕ). at_front b c.args.buffer.now) (no_date c.args.s.now c.in-Some.l (sym c.in-Some.ensures) c.in-Err.r (sym c.in-Err.ensures))
+    ∙ ap (λ (b : List ℕ). at_front b c.args.buffer.now) (no_date c.args.s.now c.in-Some.l (sym c.in-Some.ensures) c.in-Err.refused (sym c.in-Err.ensures))
 
 pub returns-in-Ok-clause-size : goal.returns-in-Ok-clause-size
 returns-in-Ok-clause-size c =

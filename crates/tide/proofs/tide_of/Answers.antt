@@ -1,5 +1,5 @@
 -- `tide::tide_of` meets its contract: both answers are made at the reading's instant for phases, or are its refusal.
-use Rattle.std.proofs.Common.{◌≡◌, ◌∙◌, ap, sym}
+use Rattle.std.proofs.Common.{◌≡◌, ◌∙◌, ap, sym, rules}
 use Rattle.std.proofs.lemmas.Result.{err_from_is_err_and}
 use Rattle.instants.proofs.Impossible.{impossible}
 use Rattle.utc.specs.PhaseInstants.{PhaseInstant}
@@ -31,13 +31,17 @@ module _ (r : Reading) (k : Doodson) where
       (λ m e. ap Err (cc)) (λ p _ e. impossible (cc)) (phase_is r ∙ i)
 
 pub arguments_at-requires : goal.arguments_at-requires
-arguments_at-requires c = answer_together _ _ (sym c.phase_parts.ensures ∙ c.in_ok-p.was)
+arguments_at-requires c =
+    let e : c.phase_parts.result ≡ Ok c.in_ok-p.p = search rules in
+    answer_together _ _ (sym c.phase_parts.ensures ∙ e)
 
 pub returns-in_err-p : goal.returns-in_err-p
 returns-in_err-p c =
     let p = err_from_is_err_and c.from_residual.result c.from_residual.ensures.1 in
-    let e : c.phase_parts.result ≡ Err c.in_err-p.field-0.0 = c.in_err-p.was in
+    let e : c.phase_parts.result ≡ Err c.in_err-p.field-0.0 = search rules in
     rw (p.1, p.2) (refused _ _ _ (sym c.phase_parts.ensures ∙ e))
 
 pub returns : goal.returns
-returns c = c.constituent.ensures ∙ answered _ _ _ _ c.arguments_at.ensures (sym c.phase_parts.ensures ∙ c.in_ok-p.was)
+returns c =
+    let e : c.phase_parts.result ≡ Ok c.in_ok-p.p = search rules in
+    c.constituent.ensures ∙ answered _ _ _ _ c.arguments_at.ensures (sym c.phase_parts.ensures ∙ e)
