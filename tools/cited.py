@@ -15,7 +15,7 @@ from fnmatch import fnmatchcase
 from pathlib import Path
 
 DOCUMENTS = ["PROMISES", "RULES", "DECISIONS", "WRONG_PROGRAMS", "WRONG_ROWS", "WRONG_RESCUE", "WRONG_TIDES", "WRONG_COMPARE", "WRONG_CALLS"]
-APART = {"WRONG_ROWS": ("rows/", "row_bytes/", "row_places/", "nutation/"), "WRONG_RESCUE": ("rescue/", "rescue_lines/"), "WRONG_TIDES": ("binary64/", "tide/", "schwiderski/"),
+APART = {"WRONG_ROWS": ("rows/", "row_bytes/", "row_places/", "nutation/"), "WRONG_RESCUE": ("rescue/", "rescue_lines/", "rescue_records/"), "WRONG_TIDES": ("binary64/", "tide/", "schwiderski/"),
          "WRONG_COMPARE": ("files/", "compare/", "promises/compare_")}
 # words in backticks that are no names of ours: keywords, the C library's, the kit's, what the program writes, placeholders
 NO_NAMES = {"requires", "match", "fmod", "rem", "must-fail", "RT_JOBS", "refused", "count", "_", "returns", "returns-in-Err-clause-refusal", "Result", "Option", "Ok", "Err",
